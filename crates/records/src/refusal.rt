@@ -1,0 +1,49 @@
+// Every refusal of the planner, with the place that it speaks of.
+ghost use mathlib.Core.Path.{_≡_};
+ghost use Rattle.records.specs.Refusals.{number, place};
+
+#[derive(Clone, Copy, PartialEq, Eq, Debug)]
+pub enum Refusal {
+    // the text is longer than a reader takes
+    TextTooLong,
+    // a line has none of the forms
+    LineOutOfForm { line: usize },
+    // a line stands where its kind may not
+    LineOutOfOrder { line: usize },
+    // a field of a line is outside its range
+    FieldOutOfRange { line: usize },
+    // the handed tables have no room for what a line announces
+    TablesTooShort { line: usize },
+    // there are more or fewer arc lines than announced, or nothing was announced
+    ArcsMiscounted { line: usize },
+}
+
+impl Refusal {
+    // The number under which the refusal is known.
+    pub fn number(&self) -> u8
+        ensures { λ r. ⌜ r ≡ number (now (self .entry)) ⌝ }
+    {
+        match self {
+            Refusal::TextTooLong => 1,
+            Refusal::LineOutOfForm { .. } => 2,
+            Refusal::LineOutOfOrder { .. } => 3,
+            Refusal::FieldOutOfRange { .. } => 4,
+            Refusal::TablesTooShort { .. } => 5,
+            Refusal::ArcsMiscounted { .. } => 6,
+        }
+    }
+
+    // Where the fault lies: the line, counted from 1, or 0 where there is none.
+    pub fn place(&self) -> usize
+        ensures { λ r. ⌜ r ≡ place (now (self .entry)) ⌝ }
+    {
+        match *self {
+            Refusal::TextTooLong => 0,
+            Refusal::LineOutOfForm { line } => line,
+            Refusal::LineOutOfOrder { line } => line,
+            Refusal::FieldOutOfRange { line } => line,
+            Refusal::TablesTooShort { line } => line,
+            Refusal::ArcsMiscounted { line } => line,
+        }
+    }
+}
