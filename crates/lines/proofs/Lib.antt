@@ -1,0 +1,3 @@
+pub mod Forms
+pub mod Fronts
+pub mod Scanning

@@ -1,0 +1,5 @@
+pub mod Judging
+pub mod Reading
+pub mod Rows
+pub mod Rules
+pub mod Stated
