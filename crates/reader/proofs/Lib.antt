@@ -1,0 +1,2 @@
+pub mod RowEnds
+pub mod Taken

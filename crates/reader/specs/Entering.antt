@@ -1,0 +1,32 @@
+-- What a line adds to the tables that a text is read into.
+--   Small                      a line whose numbers fit the records
+--   legs-with, stations-with   the tables once a line is entered
+use mathlib.Core.List.{List}
+use Prim.Native.Nat.{ℕ, _-_, _≤_}
+use lib.ListN.{set}
+use Rattle.records.specs.declared.leg.Leg.{Leg}
+use Rattle.records.specs.declared.station.Station.{Station}
+use Rattle.lines.specs.declared.line.Line.{Line}
+use Rattle.lines.specs.declared.line.Line.the-variants.{Comment, Problem, Node, Arc}
+use Rattle.text_rules.specs.Stated.{leg-of}
+
+abbrev pub Small : Line → Type 0
+Small Comment = Unit {0}
+Small (Problem nodes arcs) = Unit {0}
+Small (Node id flow) = 1 ≤ id
+Small (Arc source target low capacity cost) =
+    (1 ≤ source) × (source ≤ 240) × (1 ≤ target) × (target ≤ 240) × (capacity ≤ 500)
+
+-- an arc line's leg goes behind the legs before it
+abbrev pub legs-with : Line → ℕ → List Leg → List Leg
+legs-with Comment at legs = legs
+legs-with (Problem nodes arcs) at legs = legs
+legs-with (Node id flow) at legs = legs
+legs-with (Arc source target low capacity cost) at legs = set legs at (leg-of source target capacity cost)
+
+-- a node line's balance goes to its station
+abbrev pub stations-with : Line → List Station → List Station
+stations-with Comment stations = stations
+stations-with (Problem nodes arcs) stations = stations
+stations-with (Node id flow) stations = set stations (id - 1) (record { balance = flow })
+stations-with (Arc source target low capacity cost) stations = stations

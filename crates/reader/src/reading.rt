@@ -1,0 +1,64 @@
+// Reading a whole text into lent tables.
+ghost use mathlib.Core.Path.{_≡_};
+ghost use Prim.Native.Nat.{ℕ, _+_, _-_, _^_, _<_, _≤_};
+ghost use lib.ListN.{length, set, replicate};
+ghost use Rattle.records.specs.Cleared.{cleared-leg, cleared-station};
+ghost use Rattle.text_rules.specs.Stated.{leg-of};
+ghost use Rattle.reader.specs.Entering.{Small, legs-with, stations-with};
+use lines::Line;
+use records::Leg;
+use records::Mark;
+use records::Station;
+
+// Clears every leg record.
+fn clear_legs(legs: &mut [Leg])
+    ensures { λ _. ⌜ now (legs .exit) ≡ replicate (length (now (legs .entry))) cleared-leg ⌝ }
+{
+    legs.fill(Leg::CLEARED);
+}
+
+// Clears every station record.
+fn clear_stations(stations: &mut [Station])
+    ensures { λ _. ⌜ now (stations .exit) ≡ replicate (length (now (stations .entry))) cleared-station ⌝ }
+{
+    stations.fill(Station::CLEARED);
+}
+
+// Writes one record, where the table has it.
+fn put<T: Copy>(table: &mut [T], i: usize, value: T)
+    ensures { λ _. ⌜ now (table .exit) ≡ set (now (table .entry)) i value ⌝ }
+{
+    if i < table.len() {
+        table[i] = value;
+    }
+}
+
+// The leg that an arc line states.
+fn leg_of(source: u32, target: u32, capacity: u32, cost: u32) -> Leg
+    requires { ⌜ 1 ≤ source ⌝ ∗ ⌜ source ≤ 240 ⌝ ∗ ⌜ 1 ≤ target ⌝ ∗ ⌜ target ≤ 240 ⌝ ∗ ⌜ capacity ≤ 500 ⌝ }
+    ensures { λ r. ⌜ r ≡ leg-of source target capacity cost ⌝ }
+{
+    Leg {
+        start: (source - 1) as u16,
+        end: (target - 1) as u16,
+        capacity: capacity as u16,
+        charge: cost,
+        mark: Mark::Open,
+    }
+}
+
+// Enters what a line states; `at` is the number of legs before it.
+fn enter(line: Line, at: usize, legs: &mut [Leg], stations: &mut [Station])
+    requires { ⌜ Small line ⌝ }
+    ensures legs { λ _. ⌜ now (legs .exit) ≡ legs-with line at (now (legs .entry)) ⌝ }
+    ensures stations { λ _. ⌜ now (stations .exit) ≡ stations-with line (now (stations .entry)) ⌝ }
+{
+    match line {
+        Line::Comment => {}
+        Line::Problem { .. } => {}
+        Line::Node { id, flow } => put(stations, id as usize - 1, Station { balance: flow }),
+        Line::Arc { source, target, capacity, cost, .. } => {
+            put(legs, at, leg_of(source, target, capacity, cost));
+        }
+    }
+}
