@@ -1,13 +1,16 @@
 -- Where a row ends: one byte more, and the end.
 use mathlib.Core.Path.{_≡_, refl, sym, ap, _∙_}
 use mathlib.Core.List.{List, [], _∷_, _++_}
-use Prim.Native.Nat.{ℕ, _+_, _-_, _<_, _≤_}
-use native.Mathlib.Nat.{sub-zero}
+use mathlib.Core.Logic.{⊎-elim}
+use Prim.Native.Nat.{ℕ, _+_, _-_, _<_, _≤_, min, suc}
+use native.Mathlib.Nat.{sub-zero, add-assoc}
 use native.Mathlib.Omega.{arith}
 use lib.ListN.{length, take, drop, getD}
-use Rattle.std.proofs.shelf.Lists.{drop-more, drop-all, take-more, take-rest, length-take-le, append-assoc, append-nil}
-use Rattle.std.proofs.shelf.Tests.{ne-eqb}
-use Rattle.text_rules.specs.Rows.{first-row, behind}
+use Rattle.std.proofs.shelf.Lists.{drop-more, drop-all, drop-drop, take-more, take-rest, length-take-le, append-assoc, append-nil}
+use Rattle.std.proofs.shelf.Tests.{eq-eqb, ne-eqb, cases-eq, cases-lt}
+use Rattle.text_rules.specs.Rows.{first-row, behind, rows}
+use Rattle.text_rules.proofs.Parting.{rows-step}
+use Rattle.reader.specs.Taking.{row-at, next-place}
 
 -- the first i bytes of s lie in its first row
 pub record Inside (s : List ℕ) (i : ℕ) : Type 0 where
@@ -56,3 +59,33 @@ module _ (text : List ℕ) (place r : ℕ) (is : first-row (take (length text - 
 
   pub row-long : r ≤ length (take (length text - place) (drop place text)) → length (first-row (drop place text)) ≡ r
   row-long h = ap length plain ∙ length-take-le r (drop place text) (rw (take-rest text place) at h)
+
+behind-drop : (s : List ℕ) → behind s ≡ drop (length (first-row s) + 1) s
+behind-drop [] = refl
+behind-drop (b ∷ s) =
+    ⊎-elim
+    (λ (e : b ≡ 10). rw (eq-eqb b 10 e) refl)
+    (λ (ne : b ≡ 10 → ⊥).
+        let n : ℕ = length (first-row s) in
+        let e : suc (n + 1) ≡ suc n + 1 = omega arith in
+        rw (ne-eqb b 10 ne) (behind-drop s ∙ ap (λ k. drop k (b ∷ s)) e))
+    (cases-eq b 10)
+
+drop-min : (n : ℕ) (xs : List ℕ) → drop n xs ≡ drop (min (length xs) n) xs
+drop-min n xs =
+    ⊎-elim
+    (λ (h : n < length xs). let e : min (length xs) n ≡ n = grind arith in rw e refl)
+    (λ (h : length xs ≤ n). let e : min (length xs) n ≡ length xs = grind arith in rw e (drop-all n xs h ∙ sym (drop-all (length xs) xs (omega arith))))
+    (cases-lt n (length xs))
+
+-- the rows from a place on are the row there and those from the next place on
+pub rows-at : (text : List ℕ) (place : ℕ) → place < length text
+  → rows (drop place text) ≡ row-at text place ∷ rows (drop (next-place text place) text)
+rows-at text place h =
+    let s : List ℕ = drop place text in
+    let r : ℕ = length (first-row s) in
+    let whole : rows s ≡ first-row s ∷ rows (behind s) =
+        rw (drop-more text place 0 h) (rows-step (getD text place 0) (drop (place + 1) text)) in
+    let next : behind s ≡ drop (next-place text place) text =
+        behind-drop s ∙ drop-drop (r + 1) place text ∙ ap (λ n. drop n text) (sym (add-assoc place r 1)) ∙ drop-min (place + r + 1) text in
+    whole ∙ ap (λ t. first-row s ∷ rows t) next

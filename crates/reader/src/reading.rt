@@ -4,10 +4,13 @@ ghost use Prim.Native.Nat.{ℕ, _+_, _-_, _^_, _<_, _≤_};
 ghost use lib.ListN.{length, set, replicate};
 ghost use Rattle.records.specs.Cleared.{cleared-leg, cleared-station};
 ghost use Rattle.text_rules.specs.Stated.{leg-of};
-ghost use Rattle.reader.specs.Entering.{Small, legs-with, stations-with};
+ghost use Rattle.text_rules.specs.Judging.{nodes-in};
+ghost use Rattle.reader.specs.Entering.{Small, legs-with, stations-with, Stepped};
+use crate::reader::Reader;
 use lines::Line;
 use records::Leg;
 use records::Mark;
+use records::Refusal;
 use records::Station;
 
 // Clears every leg record.
@@ -61,4 +64,19 @@ fn enter(line: Line, at: usize, legs: &mut [Leg], stations: &mut [Station])
             put(legs, at, leg_of(source, target, capacity, cost));
         }
     }
+}
+
+// Takes and enters one line; false at the end of the text.
+fn step(reader: &mut Reader, legs: &mut [Leg], stations: &mut [Station]) -> Result<bool, Refusal>
+    requires { ⌜ nodes-in (now reader .progress .header) ≤ 240 ⌝ }
+    ensures stepped { λ r. ⌜ Stepped r (now (reader .entry) .room) (now (now (reader .entry) .text)) (now (reader .entry) .place) (now (reader .entry) .lines) (now (reader .entry) .progress) (now (reader .exit) .place) (now (reader .exit) .lines) (now (reader .exit) .progress) (now (legs .entry)) (now (legs .exit)) (now (stations .entry)) (now (stations .exit)) ⌝ }
+    ensures text { λ _. ⌜ now (now (reader .exit) .text) ≡ now (now (reader .entry) .text) ⌝ }
+    ensures room { λ _. ⌜ now (reader .exit) .room ≡ now (reader .entry) .room ⌝ }
+{
+    let at = reader.progress.arcs;
+    let Some(line) = reader.take_line()? else {
+        return Ok(false);
+    };
+    enter(line, at, legs, stations);
+    Ok(true)
 }
