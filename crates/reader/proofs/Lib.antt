@@ -4,3 +4,4 @@ pub mod Sofar
 pub mod Steps
 pub mod Tables
 pub mod Taken
+pub mod Whole

@@ -1,12 +1,14 @@
 -- What a line adds to the tables that a text is read into.
+--   room-of                    the room of two tables
 --   Small                      a line whose numbers fit the records
 --   legs-with, stations-with   the tables once a line is entered
 --   Stepped                    what taking and entering one line answers and leaves
+--   Filled                     what entering every line answers, and the tables where it is accepted
 use mathlib.Core.Path.{_≡_}
 use mathlib.Core.List.{List}
 use mathlib.Core.Bool.{Bool, true, false}
 use Prim.Native.Nat.{ℕ, _-_, _≤_}
-use lib.ListN.{set}
+use lib.ListN.{set, length}
 use Rattle.std.specs.declared.option.Option.the-variants.{Some, None}
 use Rattle.std.specs.declared.result.Result.{Result}
 use Rattle.std.specs.declared.result.Result.the-variants.{Ok, Err}
@@ -15,10 +17,14 @@ use Rattle.records.specs.declared.leg.Leg.{Leg}
 use Rattle.records.specs.declared.station.Station.{Station}
 use Rattle.lines.specs.declared.line.Line.{Line}
 use Rattle.lines.specs.declared.line.Line.the-variants.{Comment, Problem, Node, Arc}
+use Rattle.text_rules.specs.Reading.{answer-of, legs-after, stations-after}
 use Rattle.text_rules.specs.Stated.{leg-of}
 use Rattle.text_rules.specs.declared.progress.Progress.{Progress}
 use Rattle.text_rules.specs.declared.progress.Room.{Room}
 use Rattle.reader.specs.Taking.{TookLine}
+
+abbrev pub room-of : List Leg → List Station → Room
+room-of legs stations = record { stations = length stations; legs = length legs }
 
 abbrev pub Small : Line → Type 0
 Small Comment = Unit {0}
@@ -49,3 +55,8 @@ Stepped (Ok false) room text place lines p place′ lines′ p′ legs legs′ s
     TookLine (Ok None) room text place lines p place′ lines′ p′ × (legs′ ≡ legs) × (stations′ ≡ stations)
 Stepped (Err e) room text place lines p place′ lines′ p′ legs legs′ stations stations′ =
     TookLine (Err e) room text place lines p place′ lines′ p′ × (legs′ ≡ legs) × (stations′ ≡ stations)
+
+abbrev pub Filled : Result (ℕ × ℕ) Refusal → Result (List Line) Refusal → List Leg → List Station → ℕ → ℕ → Type 0
+Filled (Ok sizes) whole legs stations m n =
+    (Ok sizes ≡ answer-of whole) × (legs ≡ legs-after whole m) × (stations ≡ stations-after whole n)
+Filled (Err e) whole legs stations m n = whole ≡ Err e

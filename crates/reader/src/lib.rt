@@ -5,3 +5,4 @@ mod reading;
 mod taking;
 
 pub use reader::Reader;
+pub use reading::read;

@@ -3,15 +3,17 @@ ghost use mathlib.Core.Path.{_≡_};
 ghost use Prim.Native.Nat.{ℕ, _+_, _-_, _^_, _<_, _≤_};
 ghost use lib.ListN.{length, set, replicate};
 ghost use Rattle.records.specs.Cleared.{cleared-leg, cleared-station};
+ghost use Rattle.text_rules.specs.Reading.{reading, answer-of, legs-after, stations-after, Exactly};
 ghost use Rattle.text_rules.specs.Stated.{leg-of};
 ghost use Rattle.text_rules.specs.Judging.{nodes-in};
-ghost use Rattle.reader.specs.Entering.{Small, legs-with, stations-with, Stepped};
+ghost use Rattle.reader.specs.Entering.{Small, legs-with, stations-with, Stepped, Filled, room-of};
 use crate::reader::Reader;
 use lines::Line;
 use records::Leg;
 use records::Mark;
 use records::Refusal;
 use records::Station;
+use text_rules::Room;
 
 // Clears every leg record.
 fn clear_legs(legs: &mut [Leg])
@@ -79,4 +81,33 @@ fn step(reader: &mut Reader, legs: &mut [Leg], stations: &mut [Station]) -> Resu
     };
     enter(line, at, legs, stations);
     Ok(true)
+}
+
+// Reads the lines of a text into cleared tables.
+fn fill(text: &[u8], legs: &mut [Leg], stations: &mut [Station]) -> Result<(usize, usize), Refusal>
+    requires { ⌜ now legs ≡ replicate (length (now legs)) cleared-leg ⌝ ∗ ⌜ now stations ≡ replicate (length (now stations)) cleared-station ⌝ }
+    ensures { λ r. ⌜ Filled r (reading (room-of (now (legs .entry)) (now (stations .entry))) (now (text .entry))) (now (legs .exit)) (now (stations .exit)) (length (now (legs .entry))) (length (now (stations .entry))) ⌝ }
+{
+    let room = Room { stations: stations.len(), legs: legs.len() };
+    let mut reader = Reader::new(text, room);
+    while step(&mut reader, legs, stations)? {}
+    reader.finish()
+}
+
+// Reads a text into lent tables. Accepted, it answers the numbers of nodes and arcs, and the tables hold the
+// stations and legs and are cleared beyond them. Refused, the tables are cleared.
+pub fn read(text: &[u8], legs: &mut [Leg], stations: &mut [Station]) -> Result<(usize, usize), Refusal>
+    ensures answer { λ r. ⌜ r ≡ answer-of (reading (room-of (now (legs .entry)) (now (stations .entry))) (now (text .entry))) ⌝ }
+    ensures legs { λ _. ⌜ now (legs .exit) ≡ legs-after (reading (room-of (now (legs .entry)) (now (stations .entry))) (now (text .entry))) (length (now (legs .entry))) ⌝ }
+    ensures stations { λ _. ⌜ now (stations .exit) ≡ stations-after (reading (room-of (now (legs .entry)) (now (stations .entry))) (now (text .entry))) (length (now (stations .entry))) ⌝ }
+    ensures exactly { λ r. ⌜ Exactly (now (text .entry)) (room-of (now (legs .entry)) (now (stations .entry))) r (now (legs .exit)) (now (stations .exit)) ⌝ }
+{
+    clear_legs(legs);
+    clear_stations(stations);
+    let answer = fill(text, legs, stations);
+    if answer.is_err() {
+        clear_legs(legs);
+        clear_stations(stations);
+    }
+    answer
 }
