@@ -5,14 +5,11 @@ ghost use Prim.Native.Nat.{ℕ, _+_, _<_, _≤_};
 ghost use lib.ListN.{length, take, drop};
 ghost use Rattle.text_rules.specs.Rows.{first-row, behind};
 ghost use Rattle.lines.specs.Scan.{scan};
-ghost use Rattle.text_rules.specs.Judging.{finished};
-ghost use Rattle.reader.specs.Taking.{Fresh, TookLine, next-place, row-at};
+ghost use Rattle.reader.specs.Taking.{TookLine, next-place, row-at};
 use crate::guard::Guard;
 use crate::reader::Reader;
 use lines::Line;
 use records::Refusal;
-use text_rules::Progress;
-use text_rules::Room;
 
 // The number of bytes before the first line end.
 fn row_length(s: &[u8]) -> usize
@@ -39,28 +36,7 @@ fn line_at(text: &[u8], place: usize) -> (Option<Line>, usize)
     (Line::scan(&rest[0..row]), text.len().min(place + row + 1))
 }
 
-impl<'a> Reader<'a> {
-    // A reader at the first byte of a text, for tables of the given room.
-    pub fn new(text: &'a [u8], room: Room) -> Reader<'a>
-        ensures { λ r. ⌜ Fresh (now (text .entry)) room (now (r .text)) (r .place) (r .lines) (r .progress) (r .room) ⌝ }
-    {
-        Reader { text, place: 0, lines: 0, progress: Progress { header: None, arcs: 0 }, room }
-    }
-
-    // The place of the next line's first byte.
-    pub fn place(&self) -> usize
-        ensures { λ r. ⌜ r ≡ now (self .entry) .place ⌝ }
-    {
-        self.place
-    }
-
-    // The numbers of nodes and arcs, where the lines taken so far are a whole text.
-    pub fn finish(&self) -> Result<(usize, usize), Refusal>
-        ensures { λ r. ⌜ r ≡ finished (now (self .entry) .progress) (now (self .entry) .lines) ⌝ }
-    {
-        self.progress.finish(self.lines)
-    }
-
+impl Reader<'_> {
     // The next line, if there is one. A line that is refused leaves the reader at its first byte.
     pub fn take_line(&mut self) -> Result<Option<Line>, Refusal>
         ensures took { λ r. ⌜ TookLine r (now (self .entry) .room) (now (now (self .entry) .text)) (now (self .entry) .place) (now (self .entry) .lines) (now (self .entry) .progress) (now (self .exit) .place) (now (self .exit) .lines) (now (self .exit) .progress) ⌝ }
