@@ -25,10 +25,10 @@ open-after : (a : ℕ) (rule : Rule) (bs : List ℤ) (ks : List Mark) (s : ℕ) 
     → getD (set bs s b) k (pos 0) ≡ balance-after a rule bs ks s b k
 open-after a rule bs ks s b k h l =
     let inner : getD (set bs s b) k (pos 0) ≡ cond (eqb k s) b (getD bs k (pos 0)) =
-        ⊎-elim
-          (λ (e : k ≡ s). ap (λ j. getD (set bs s b) j (pos 0)) e ∙ getD-set-same bs s b (pos 0) h ∙ sym (cond-true (eqb k s) b (getD bs k (pos 0)) (eq-eqb k s e)))
-          (λ (e : k ≢ s). getD-set-other bs s k b (pos 0) e ∙ sym (cond-false (eqb k s) b (getD bs k (pos 0)) (ne-eqb k s e)))
-          (cases-eq k s)
+    ⊎-elim
+    (λ (e : k ≡ s). ap (λ j. getD (set bs s b) j (pos 0)) e ∙ getD-set-same bs s b (pos 0) h ∙ sym (cond-true (eqb k s) b (getD bs k (pos 0)) (eq-eqb k s e)))
+    (λ (e : k ≢ s). getD-set-other bs s k b (pos 0) e ∙ sym (cond-false (eqb k s) b (getD bs k (pos 0)) (ne-eqb k s e)))
+    (cases-eq k s)
     in inner ∙ sym (cond-true (ltb k a) _ _ (lt-ltb k a l))
 
 -- where every station is open, a report sets one balance
@@ -36,4 +36,4 @@ pub all-open : (a : ℕ) (rule : Rule) (bs : List ℤ) (ks : List Mark) (s : ℕ
     → set bs s b ≡ balances-after a rule bs ks s b
 all-open a rule bs ks s b l h =
     fill-by-all (balance-after a rule bs ks s b) (set bs s b) (length bs) (pos 0) (length-set bs s b)
-      (λ k m. open-after a rule bs ks s b k h (omega arith))
+    (λ k m. open-after a rule bs ks s b k h (omega arith))

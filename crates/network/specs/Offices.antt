@@ -76,8 +76,8 @@ reported n s b = record {
   balances = balances-after (n .open-stations) (n .rule) (n .balances) (marks-of (n .legs)) s b;
   open-stations = n .open-stations;
   road-legs = n .road-legs;
-  rule = n .rule
-  }
+  rule = n .rule;
+}
 
 -- all but the mark stays
 abbrev pub with-mark : Mark → Leg → Leg
@@ -90,8 +90,8 @@ remarked n i k = record {
   balances = n .balances;
   open-stations = n .open-stations;
   road-legs = n .road-legs;
-  rule = n .rule
-  }
+  rule = n .rule;
+}
 
 -- a report on n that leaves m: accepted exactly when it meets no fault, and else nothing is altered
 abbrev pub Reports : Result (Unit {0}) Refusal → Net → Net → ℕ → ℤ → Type 0

@@ -12,6 +12,15 @@ use records::Leg;
 use records::Mark;
 use records::Refusal;
 
+// No network has more stations.
+pub const MOST_STATIONS: usize = 240;
+
+// No network has more legs.
+pub const MOST_LEGS: usize = 3000;
+
+// No station reports a balance further from 0.
+const MOST_REPORTED: i32 = 500;
+
 // The questions. A question alters nothing, and one beyond the count is answered by None.
 pub trait Network {
     ghost meaning: { Self → Net };
@@ -89,7 +98,7 @@ pub fn check_report(open_stations: usize, station: usize, balance: i32) -> Resul
     if station >= open_stations {
         return Err(Refusal::StationNotOpen { station });
     }
-    if balance < -500 || balance > 500 {
+    if balance < -MOST_REPORTED || balance > MOST_REPORTED {
         return Err(Refusal::BalanceOutOfRange { station });
     }
     Ok(())

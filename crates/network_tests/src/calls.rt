@@ -4,7 +4,12 @@ use network::Office;
 use std::io;
 
 // A station reports.
-pub fn report<N: Office>(rt: &LibcRuntime, office: &mut N, station: usize, balance: i32) -> io::Result<()> {
+pub fn report<N: Office>(
+    rt: &LibcRuntime,
+    office: &mut N,
+    station: usize,
+    balance: i32,
+) -> io::Result<()> {
     let answer = office.report(station, balance);
     print!(rt, "  report {station} {balance}")?;
     print::answer(rt, answer)

@@ -33,26 +33,48 @@ fn run<N: Office>(rt: &LibcRuntime, name: &str, pile: &mut N) -> io::Result<()> 
 pub fn yard_over_yard(rt: &LibcRuntime) -> io::Result<()> {
     let mut legs = LEGS;
     let mut stations = STATIONS;
-    let table = Table { legs: &mut legs, stations: &mut stations };
-    run(rt, "yard over yard over table", &mut Yard::new(Yard::new(table, 25), 30))
+    let table = Table {
+        legs: &mut legs,
+        stations: &mut stations,
+    };
+    run(
+        rt,
+        "yard over yard over table",
+        &mut Yard::new(Yard::new(table, 25), 30),
+    )
 }
 
 // A van limit over a yard over a promenade.
 pub fn van_limit_over_yard(rt: &LibcRuntime) -> io::Result<()> {
     let row = Promenade::new(3, 9, 2);
-    run(rt, "van limit over yard over promenade", &mut VanLimit::new(Yard::new(row, 25), 6))
+    run(
+        rt,
+        "van limit over yard over promenade",
+        &mut VanLimit::new(Yard::new(row, 25), 6),
+    )
 }
 
 // A yard over a van limit over a table.
 pub fn yard_over_van_limit(rt: &LibcRuntime) -> io::Result<()> {
     let mut legs = LEGS;
     let mut stations = STATIONS;
-    let table = Table { legs: &mut legs, stations: &mut stations };
-    run(rt, "yard over van limit over table", &mut Yard::new(VanLimit::new(table, 3), 25))
+    let table = Table {
+        legs: &mut legs,
+        stations: &mut stations,
+    };
+    run(
+        rt,
+        "yard over van limit over table",
+        &mut Yard::new(VanLimit::new(table, 3), 25),
+    )
 }
 
 // A van limit over a yard over a yard over a promenade.
 pub fn four_deep(rt: &LibcRuntime) -> io::Result<()> {
     let yards = Yard::new(Yard::new(Promenade::new(2, 9, 2), 25), 30);
-    run(rt, "van limit over two yards over promenade", &mut VanLimit::new(yards, 400))
+    run(
+        rt,
+        "van limit over two yards over promenade",
+        &mut VanLimit::new(yards, 400),
+    )
 }

@@ -24,9 +24,18 @@ pub fn mark_word(mark: Mark) -> &'static str {
 
 // What a leg record holds.
 pub fn leg_record(rt: &LibcRuntime, leg: Leg) -> io::Result<()> {
-    let Leg { start, end, capacity, charge, mark } = leg;
+    let Leg {
+        start,
+        end,
+        capacity,
+        charge,
+        mark,
+    } = leg;
     let word = mark_word(mark);
-    println!(rt, "{start} to {end}, capacity {capacity}, charge {charge}, {word}")
+    println!(
+        rt,
+        "{start} to {end}, capacity {capacity}, charge {charge}, {word}"
+    )
 }
 
 // A leg, or that there is none.

@@ -16,9 +16,50 @@ pub fn limits(rt: &LibcRuntime) -> io::Result<()> {
     let mut legs = LEGS;
     let mut stations = STATIONS;
     legs[0].capacity = 501;
-    print::all(rt, "van limit 3", &VanLimit::new(Table { legs: &mut legs, stations: &mut stations }, 3))?;
-    print::legs(rt, &VanLimit::new(Table { legs: &mut legs, stations: &mut stations }, 0))?;
-    print::legs(rt, &VanLimit::new(Table { legs: &mut legs, stations: &mut stations }, 500))?;
-    print::legs(rt, &VanLimit::new(Table { legs: &mut legs, stations: &mut stations }, 501))?;
-    print::all(rt, "two van limits", &VanLimit::new(VanLimit::new(Promenade::new(2, 9, 1), 4), 6))
+    print::all(
+        rt,
+        "van limit 3",
+        &VanLimit::new(
+            Table {
+                legs: &mut legs,
+                stations: &mut stations,
+            },
+            3,
+        ),
+    )?;
+    print::legs(
+        rt,
+        &VanLimit::new(
+            Table {
+                legs: &mut legs,
+                stations: &mut stations,
+            },
+            0,
+        ),
+    )?;
+    print::legs(
+        rt,
+        &VanLimit::new(
+            Table {
+                legs: &mut legs,
+                stations: &mut stations,
+            },
+            500,
+        ),
+    )?;
+    print::legs(
+        rt,
+        &VanLimit::new(
+            Table {
+                legs: &mut legs,
+                stations: &mut stations,
+            },
+            501,
+        ),
+    )?;
+    print::all(
+        rt,
+        "two van limits",
+        &VanLimit::new(VanLimit::new(Promenade::new(2, 9, 1), 4), 6),
+    )
 }

@@ -42,25 +42,25 @@ counted-set {X} f xs d e n i x h l =
     let whole = map (λ (j : ℕ). f (getD xs j d) j) (counting 0 n) in
     let there : i < length whole = rw (length-map-counting (λ (j : ℕ). f (getD xs j d) j) 0 n) h in
     sym (fill-by-all (λ (j : ℕ). f (getD (set xs i x) j d) j) (set whole i (f x i)) n e
-          (length-set whole i (f x i) ∙ length-map-counting (λ (j : ℕ). f (getD xs j d) j) 0 n)
-          (λ k m. ⊎-elim
-            (λ (p : k ≡ i).
-              ap (λ (j : ℕ). getD (set whole i (f x i)) j e) p ∙ getD-set-same whole i (f x i) e there
-              ∙ ap (λ (z : X). f z i) (sym (getD-set-same xs i x d l))
-              ∙ ap (λ (j : ℕ). f (getD (set xs i x) j d) j) (sym p))
-            (λ (p : k ≢ i).
-              getD-set-other whole i k (f x i) e p ∙ getD-map-counting (λ (j : ℕ). f (getD xs j d) j) 0 n k k e m (omega arith)
-              ∙ ap (λ (z : X). f z k) (sym (getD-set-other xs i k x d p)))
-            (cases-eq k i)))
+    (length-set whole i (f x i) ∙ length-map-counting (λ (j : ℕ). f (getD xs j d) j) 0 n)
+    (λ k m. ⊎-elim
+    (λ (p : k ≡ i).
+    ap (λ (j : ℕ). getD (set whole i (f x i)) j e) p ∙ getD-set-same whole i (f x i) e there
+    ∙ ap (λ (z : X). f z i) (sym (getD-set-same xs i x d l))
+    ∙ ap (λ (j : ℕ). f (getD (set xs i x) j d) j) (sym p))
+    (λ (p : k ≢ i).
+    getD-set-other whole i k (f x i) e p ∙ getD-map-counting (λ (j : ℕ). f (getD xs j d) j) 0 n k k e m (omega arith)
+    ∙ ap (λ (z : X). f z k) (sym (getD-set-other xs i k x d p)))
+    (cases-eq k i)))
 
 -- a new row
 new-row : (stations capacity charge : ℕ) → promenade stations capacity charge (replicate 40 (pos 0)) (replicate 78 Open) ≡ fresh stations capacity charge
 new-row stations capacity charge =
     ap (λ (ls : List Leg). let n : Net = record { legs = ls; balances = map (λ (v : ℕ). getD (replicate 40 (pos 0)) v (pos 0)) (counting 0 stations); open-stations = stations; road-legs = row-legs stations; rule = unasked } in n)
-      (same-counted (λ (j : ℕ). promenade-leg capacity charge (getD (replicate 78 Open) j Open) j) (promenade-leg capacity charge Open) (row-legs stations) cleared-leg
-        (λ k. ap (λ (m : Mark). promenade-leg capacity charge m k) (getD-repeated 78 k Open)))
+    (same-counted (λ (j : ℕ). promenade-leg capacity charge (getD (replicate 78 Open) j Open) j) (promenade-leg capacity charge Open) (row-legs stations) cleared-leg
+    (λ k. ap (λ (m : Mark). promenade-leg capacity charge m k) (getD-repeated 78 k Open)))
     ∙ ap (λ (bs : List ℤ). let n : Net = record { legs = map (promenade-leg capacity charge Open) (counting 0 (row-legs stations)); balances = bs; open-stations = stations; road-legs = row-legs stations; rule = unasked } in n)
-      (same-counted (λ (v : ℕ). getD (replicate 40 (pos 0)) v (pos 0)) (λ (v : ℕ). pos 0) stations (pos 0) (λ k. getD-repeated 40 k (pos 0)))
+    (same-counted (λ (v : ℕ). getD (replicate 40 (pos 0)) v (pos 0)) (λ (v : ℕ). pos 0) stations (pos 0) (λ k. getD-repeated 40 k (pos 0)))
 
 pub made-row : (s c h stations capacity charge : ℕ) → s ≡ min stations 40 → c ≡ min capacity 500 → h ≡ min charge 10000
     → promenade s c h (replicate 40 (pos 0)) (replicate 78 Open) ≡ fresh (min stations 40) (min capacity 500) (min charge 10000)
@@ -77,7 +77,7 @@ module _ (stations capacity charge : ℕ) (bs : List ℤ) (ks : List Mark) where
       let few : length (n .balances) ≤ stations = omega arith in
       let there : s < length (n .balances) = omega arith in
       ap (λ (v : List ℤ). let m : Net = record { legs = n .legs; balances = v; open-stations = stations; road-legs = row-legs stations; rule = unasked } in m)
-        (counted-set (λ (z : ℤ) (j : ℕ). z) bs (pos 0) (pos 0) stations s b h l ∙ all-open stations unasked (n .balances) (marks-of (n .legs)) s b few there)
+      (counted-set (λ (z : ℤ) (j : ℕ). z) bs (pos 0) (pos 0) stations s b h l ∙ all-open stations unasked (n .balances) (marks-of (n .legs)) s b few there)
 
   pub report-writes : (s : ℕ) (b : ℤ) → report-fault stations s b ≡ None → s < length bs → SFits w32 b
       → promenade stations capacity charge (set bs s (toZ w32 (ofZ w32 b))) ks ≡ reported (promenade stations capacity charge bs ks) s b
@@ -91,6 +91,6 @@ module _ (stations capacity charge : ℕ) (bs : List ℤ) (ks : List Mark) where
       let n : Net = promenade stations capacity charge bs ks in
       let h : i < row-legs stations = mark-road (row-legs stations) (n .legs) i k e in
       ap (λ (v : List Leg). let m : Net = record { legs = v; balances = n .balances; open-stations = stations; road-legs = row-legs stations; rule = unasked } in m)
-        (counted-set (promenade-leg capacity charge) ks Open cleared-leg (row-legs stations) i k h l
-         ∙ ap (λ (x : Leg). set (n .legs) i (with-mark k x))
-             (sym (getD-map-counting (λ (j : ℕ). promenade-leg capacity charge (getD ks j Open) j) 0 (row-legs stations) i i cleared-leg h (omega arith))))
+      (counted-set (promenade-leg capacity charge) ks Open cleared-leg (row-legs stations) i k h l
+      ∙ ap (λ (x : Leg). set (n .legs) i (with-mark k x))
+      (sym (getD-map-counting (λ (j : ℕ). promenade-leg capacity charge (getD ks j Open) j) 0 (row-legs stations) i i cleared-leg h (omega arith))))

@@ -26,8 +26,8 @@ promenade-leg capacity charge k j = record {
   end = cond (eqb (j % 2) 0) (j / 2 + 1) (j / 2);
   capacity = capacity;
   charge = charge;
-  mark = k
-  }
+  mark = k;
+}
 
 -- two for each station but the last; none for one station or for no station
 abbrev pub row-legs : ℕ → ℕ
@@ -40,8 +40,8 @@ promenade stations capacity charge bs ks = record {
   balances = map (λ (v : ℕ). getD bs v (pos 0)) (counting 0 stations);
   open-stations = stations;
   road-legs = row-legs stations;
-  rule = unasked
-  }
+  rule = unasked;
+}
 
 -- all balances are 0 and all legs are open
 abbrev pub fresh : ℕ → ℕ → ℕ → Net
@@ -50,8 +50,8 @@ fresh stations capacity charge = record {
   balances = map (λ (v : ℕ). pos 0) (counting 0 stations);
   open-stations = stations;
   road-legs = row-legs stations;
-  rule = unasked
-  }
+  rule = unasked;
+}
 
 -- 40 stations have 78 legs
 pub promenade-within : (stations capacity charge : ℕ) (bs : List ℤ) (ks : List Mark) → stations ≤ 40 → Within (promenade stations capacity charge bs ks)
@@ -62,5 +62,5 @@ promenade-within stations capacity charge bs ks h =
       few-stations = omega arith;
       few-legs = omega arith;
       open-among = omega arith;
-      roads-among = omega arith
+      roads-among = omega arith;
     }

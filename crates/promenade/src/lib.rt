@@ -12,6 +12,15 @@ use records::Leg;
 use records::Mark;
 use records::Refusal;
 
+// The most stations of a row.
+const MOST_ROW: usize = 40;
+
+// The highest capacity of a row's legs.
+const MOST_CAPACITY: u16 = 500;
+
+// The highest charge of a row's legs.
+const MOST_CHARGE: u32 = 10_000;
+
 // The row. Balances and marks beyond its stations and legs are not read.
 #[derive(Drop)]
 pub struct Promenade {
@@ -29,10 +38,16 @@ impl Promenade {
     pub fn new(stations: usize, capacity: u16, charge: u32) -> Promenade
         ensures { λ r. ⌜ promenade (r .stations) (r .capacity) (r .charge) (r .balances) (r .marks) ≡ fresh (min stations 40) (min capacity 500) (min charge 10000) ⌝ }
     {
-        let stations = stations.min(40);
-        let capacity = capacity.min(500);
-        let charge = charge.min(10_000);
-        Promenade { stations, capacity, charge, balances: [0; 40], marks: [Mark::Open; 78] }
+        let stations = stations.min(MOST_ROW);
+        let capacity = capacity.min(MOST_CAPACITY);
+        let charge = charge.min(MOST_CHARGE);
+        Promenade {
+            stations,
+            capacity,
+            charge,
+            balances: [0; 40],
+            marks: [Mark::Open; 78],
+        }
     }
 }
 
@@ -51,9 +66,21 @@ fn leg_of(capacity: u16, charge: u32, mark: Mark, number: usize) -> Leg
 {
     let station = (number / 2) as u16;
     if number % 2 == 0 {
-        Leg { start: station, end: station + 1, capacity, charge, mark }
+        Leg {
+            start: station,
+            end: station + 1,
+            capacity,
+            charge,
+            mark,
+        }
     } else {
-        Leg { start: station + 1, end: station, capacity, charge, mark }
+        Leg {
+            start: station + 1,
+            end: station,
+            capacity,
+            charge,
+            mark,
+        }
     }
 }
 
@@ -87,7 +114,11 @@ pub impl Network for Promenade as PromenadeNetwork {
     }
 
     fn balance(&self, station: usize) -> Option<i32> {
-        if station < self.stations { Some(self.balances[station]) } else { None }
+        if station < self.stations {
+            Some(self.balances[station])
+        } else {
+            None
+        }
     }
 }
 

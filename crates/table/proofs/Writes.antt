@@ -50,7 +50,7 @@ reported-as ls ss s b h =
     let there : s < length bs = simp length-map h in
     ap (λ (n : ℕ). let k : Net = record { legs = take 3000 ls; balances = balances-of (take 240 (set ss s (having b))); open-stations = n; road-legs = length (take 3000 ls); rule = unasked } in k) (length-taken-set 240 ss s (having b))
     ∙ ap (λ (v : List ℤ). let k : Net = record { legs = take 3000 ls; balances = v; open-stations = a; road-legs = length (take 3000 ls); rule = unasked } in k)
-        (balances-set ss s b ∙ all-open a unasked bs (marks-of (take 3000 ls)) s b few there)
+    (balances-set ss s b ∙ all-open a unasked bs (marks-of (take 3000 ls)) s b few there)
 
 pub report-writes : (ls : List Leg) (ss : List Station) (s : ℕ) (b : ℤ) → report-fault (length (take 240 ss)) s b ≡ None → SFits w32 b
     → table-of ls (set ss s (having (toZ w32 (ofZ w32 b)))) ≡ reported (table-of ls ss) s b
@@ -64,7 +64,7 @@ mark-writes ls ss i k e =
     let x : Leg = with-mark k (getD ls i cleared-leg) in
     ap (λ (n : ℕ). let m : Net = record { legs = take 3000 (set ls i x); balances = balances-of (take 240 ss); open-stations = length (take 240 ss); road-legs = n; rule = unasked } in m) (length-taken-set 3000 ls i x)
     ∙ ap (λ (v : List Leg). let m : Net = record { legs = v; balances = balances-of (take 240 ss); open-stations = length (take 240 ss); road-legs = length (take 3000 ls); rule = unasked } in m)
-        (take-set-any 3000 ls i x ∙ ap (λ (l : Leg). set (take 3000 ls) i (with-mark k l)) (sym (getD-take 3000 ls i cleared-leg (within-front 3000 ls i h .1))))
+    (take-set-any 3000 ls i x ∙ ap (λ (l : Leg). set (take 3000 ls) i (with-mark k l)) (sym (getD-take 3000 ls i cleared-leg (within-front 3000 ls i h .1))))
 
 -- a report that code found without fault
 pub report-clear : (ss : List Station) (a s : ℕ) (b : ℤ) → a ≡ length (take 240 ss) → SFits w32 b → report-fault a s (toZ w32 (ofZ w32 b)) ≡ None

@@ -24,8 +24,8 @@ table-of ls ss = record {
   balances = balances-of (take 240 ss);
   open-stations = length (take 240 ss);
   road-legs = length (take 3000 ls);
-  rule = unasked
-  }
+  rule = unasked;
+}
 
 -- no more than 3,000 legs and 240 stations are counted
 pub table-within : (ls : List Leg) (ss : List Station) → Within (table-of ls ss)
@@ -33,5 +33,5 @@ table-within ls ss = record {
   few-stations = simp (length-map, length-take) (omega arith);
   few-legs = simp length-take (omega arith);
   open-among = simp length-map (omega arith);
-  roads-among = omega arith
-  }
+  roads-among = omega arith;
+}

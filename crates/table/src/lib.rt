@@ -6,6 +6,8 @@ ghost use denote.Ref.{name, now};
 ghost use lib.ListN.{drop, length};
 ghost use Rattle.table.specs.Lent.{kept-four};
 ghost use Rattle.table.specs.Tables.{table-of, table-within};
+use network::MOST_LEGS;
+use network::MOST_STATIONS;
 use network::Network;
 use network::Office;
 use network::check_mark;
@@ -28,23 +30,23 @@ pub impl<'a> Network for Table<'a> as TableNetwork {
     ghost limits = { λ s. table-within (now (s .legs)) (now (s .stations)) };
 
     fn stations(&self) -> usize {
-        self.stations.len().min(240)
+        self.stations.len().min(MOST_STATIONS)
     }
 
     fn legs(&self) -> usize {
-        self.legs.len().min(3000)
+        self.legs.len().min(MOST_LEGS)
     }
 
     fn open_stations(&self) -> usize {
-        self.stations.len().min(240)
+        self.stations.len().min(MOST_STATIONS)
     }
 
     fn road_legs(&self) -> usize {
-        self.legs.len().min(3000)
+        self.legs.len().min(MOST_LEGS)
     }
 
     fn leg(&self, number: usize) -> Option<Leg> {
-        if number < self.legs.len().min(3000) {
+        if number < self.legs.len().min(MOST_LEGS) {
             Some(self.legs[number])
         } else {
             None
@@ -52,7 +54,7 @@ pub impl<'a> Network for Table<'a> as TableNetwork {
     }
 
     fn balance(&self, station: usize) -> Option<i32> {
-        if station < self.stations.len().min(240) {
+        if station < self.stations.len().min(MOST_STATIONS) {
             Some(self.stations[station].balance)
         } else {
             None

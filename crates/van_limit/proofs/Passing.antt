@@ -37,18 +37,18 @@ has-same limit (Some l) k = refl
 same-fault : (limit r : ℕ) (ls : List Leg) (i : ℕ) (k : Mark) → mark-fault r (map (limit-leg limit) ls) i k ≡ mark-fault r ls i k
 same-fault limit r ls i k =
     ap (λ (t : Bool). cond (ltb i r) (cond t (Some (10, i)) None) (Some (9, i)))
-      (ap (λ (o : Option Leg). has-mark o k) (nth-map (limit-leg limit) ls i) ∙ has-same limit (nth ls i) k)
+    (ap (λ (o : Option Leg). has-mark o k) (nth-map (limit-leg limit) ls i) ∙ has-same limit (nth ls i) k)
 
 same-report : (limit : ℕ) (n : Net) (s : ℕ) (b : ℤ) → limited limit (reported n s b) ≡ reported (limited limit n) s b
 same-report limit n s b =
     ap (λ (ks : List Mark). let m : Net = record { legs = map (limit-leg limit) (n .legs); balances = balances-after (n .open-stations) (n .rule) (n .balances) ks s b; open-stations = n .open-stations; road-legs = n .road-legs; rule = n .rule } in m)
-      (sym (same-marks limit (n .legs)))
+    (sym (same-marks limit (n .legs)))
 
 same-mark : (limit : ℕ) (n : Net) (i : ℕ) (k : Mark) → i < length (n .legs) → limited limit (remarked n i k) ≡ remarked (limited limit n) i k
 same-mark limit n i k h =
     ap (λ (ls : List Leg). let m : Net = record { legs = ls; balances = n .balances; open-stations = n .open-stations; road-legs = n .road-legs; rule = n .rule } in m)
-      (map-set (limit-leg limit) (n .legs) i (with-mark k (getD (n .legs) i cleared-leg))
-       ∙ ap (λ (l : Leg). set (map (limit-leg limit) (n .legs)) i (with-mark k l)) (sym (getD-map (limit-leg limit) (n .legs) i cleared-leg cleared-leg h)))
+    (map-set (limit-leg limit) (n .legs) i (with-mark k (getD (n .legs) i cleared-leg))
+    ∙ ap (λ (l : Leg). set (map (limit-leg limit) (n .legs)) i (with-mark k l)) (sym (getD-map (limit-leg limit) (n .legs) i cleared-leg cleared-leg h)))
 
 pub reports-above : (limit : ℕ) (r : Result (Unit {0}) Refusal) (n m : Net) (s : ℕ) (b : ℤ) → Reports r n m s b → Reports r (limited limit n) (limited limit m) s b
 reports-above limit (Ok u) n m s b h = (h .0, ap (limited limit) (h .1) ∙ same-report limit n s b)

@@ -19,8 +19,8 @@ limited limit n = record {
   balances = n .balances;
   open-stations = n .open-stations;
   road-legs = n .road-legs;
-  rule = n .rule
-  }
+  rule = n .rule;
+}
 
 -- the counts stay
 pub limited-within : (limit : ℕ) (n : Net) → Within n → Within (limited limit n)
@@ -28,5 +28,5 @@ limited-within limit n w = record {
   few-stations = w .few-stations;
   few-legs = rw (length-map (n .legs) (limit-leg limit)) (w .few-legs);
   open-among = w .open-among;
-  roads-among = rw (length-map (n .legs) (limit-leg limit)) (w .roads-among)
-  }
+  roads-among = rw (length-map (n .legs) (limit-leg limit)) (w .roads-among);
+}

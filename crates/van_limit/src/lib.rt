@@ -8,6 +8,9 @@ use network::Office;
 use records::Leg;
 use records::Refusal;
 
+// The highest limit.
+const MOST_LIMIT: u16 = 500;
+
 // A network under a limit on every leg's capacity.
 #[derive(Drop)]
 pub struct VanLimit<N> {
@@ -20,7 +23,10 @@ impl<N> VanLimit<N> {
     pub fn new(below: N, limit: u16) -> VanLimit<N>
         ensures { λ r. ⌜ r .below ≡ below ⌝ ∗ ⌜ r .limit ≡ min limit 500 ⌝ }
     {
-        VanLimit { below, limit: limit.min(500) }
+        VanLimit {
+            below,
+            limit: limit.min(MOST_LIMIT),
+        }
     }
 }
 
@@ -49,7 +55,10 @@ pub impl<N: Network> Network for VanLimit<N> as VanLimitNetwork {
         let Some(leg) = self.below.leg(number) else {
             return None;
         };
-        Some(Leg { capacity: leg.capacity.min(self.limit), ..leg })
+        Some(Leg {
+            capacity: leg.capacity.min(self.limit),
+            ..leg
+        })
     }
 
     fn balance(&self, station: usize) -> Option<i32> {

@@ -56,12 +56,12 @@ module _ (charge : ℕ) (n : Net) where
   pub balance-below : (b : ℤ) (i : ℕ) → Some b ≡ nth (n .balances) i → Some b ≡ nth (with-yard charge n .balances) i
   balance-below b i e =
       cond-both (full (length (n .balances)) (length (n .legs))) n (yarded charge n) (λ (k : Net). Some b ≡ nth (k .balances) i) (λ t. e)
-        (λ t. e ∙ sym (nth-left (n .balances) (yard-balance (n .balances) ∷ []) i (nth-some (n .balances) i b (sym e))))
+      (λ t. e ∙ sym (nth-left (n .balances) (yard-balance (n .balances) ∷ []) i (nth-some (n .balances) i b (sym e))))
 
   pub leg-below : (l : Leg) (i : ℕ) → Some l ≡ nth (n .legs) i → Some l ≡ nth (with-yard charge n .legs) i
   leg-below l i e =
       cond-both (full (length (n .balances)) (length (n .legs))) n (yarded charge n) (λ (k : Net). Some l ≡ nth (k .legs) i) (λ t. e)
-        (λ t. e ∙ sym (nth-left (n .legs) (map (yard-leg charge (length (n .balances))) (counting 0 (2 * length (n .balances)))) i (nth-some (n .legs) i l (sym e))))
+      (λ t. e ∙ sym (nth-left (n .legs) (map (yard-leg charge (length (n .balances))) (counting 0 (2 * length (n .balances)))) i (nth-some (n .legs) i l (sym e))))
 
   -- past what is below, where there is no room
   pub balance-without : (i : ℕ) → full (length (n .balances)) (length (n .legs)) ≡ true → length (n .balances) ≤ i → None ≡ nth (with-yard charge n .balances) i
@@ -87,15 +87,15 @@ module _ (charge : ℕ) (n : Net) where
       let f : ℕ → Leg = yard-leg charge (length (n .balances)) in
       ap Some v
       ∙ sym (ap (λ (k : Net). nth (k .legs) i) (room e)
-             ∙ nth-right (n .legs) (map f (counting 0 (2 * length (n .balances)))) i (i - length (n .legs)) (omega arith)
-             ∙ nth-counted f (2 * length (n .balances)) (i - length (n .legs)) (omega arith))
+      ∙ nth-right (n .legs) (map f (counting 0 (2 * length (n .balances)))) i (i - length (n .legs)) (omega arith)
+      ∙ nth-counted f (2 * length (n .balances)) (i - length (n .legs)) (omega arith))
 
   pub leg-past : (i : ℕ) → full (length (n .balances)) (length (n .legs)) ≡ false → length (n .legs) + 2 * length (n .balances) ≤ i → None ≡ nth (with-yard charge n .legs) i
   leg-past i e h =
       let f : ℕ → Leg = yard-leg charge (length (n .balances)) in
       sym (ap (λ (k : Net). nth (k .legs) i) (room e)
-           ∙ nth-right (n .legs) (map f (counting 0 (2 * length (n .balances)))) i (i - length (n .legs)) (omega arith)
-           ∙ nth-counted-past f (2 * length (n .balances)) (i - length (n .legs)) (omega arith))
+      ∙ nth-right (n .legs) (map f (counting 0 (2 * length (n .balances)))) i (i - length (n .legs)) (omega arith)
+      ∙ nth-counted-past f (2 * length (n .balances)) (i - length (n .legs)) (omega arith))
 
 -- the test as code makes it
 pub at-counts : (t : Bool) (s l : ℕ) (n : Net) → s ≡ length (n .balances) → l ≡ length (n .legs) → t ≡ full s l → full (length (n .balances)) (length (n .legs)) ≡ t

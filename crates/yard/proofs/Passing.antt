@@ -66,8 +66,8 @@ module _ (a : ℕ) (rule : Rule) (bs : List ℤ) (ks js : List Mark) (y : ℤ) (
       let f : ℕ → ℤ = balance-after a (yard-rule (length bs) (length ks) a rule) (bs ++ y ∷ []) (ks ++ js) s b in
       let g : ℕ → ℤ = balance-after a rule bs ks s b in
       let front : balances-after a rule bs ks s b ≡ map f (counting 0 (length bs)) =
-          fill-by-all f (balances-after a rule bs ks s b) (length bs) (pos 0) (length-after a rule bs ks s b)
-            (λ k h. getD-map-counting g 0 (length bs) k k (pos 0) h (omega arith) ∙ sym (station-same k h)) in
+      fill-by-all f (balances-after a rule bs ks s b) (length bs) (pos 0) (length-after a rule bs ks s b)
+      (λ k h. getD-map-counting g 0 (length bs) k k (pos 0) h (omega arith) ∙ sym (station-same k h)) in
       ap (λ (v : List ℤ). v ++ yard-balance (balances-after a rule bs ks s b) ∷ []) front
       ∙ ap (λ (z : ℤ). map f (counting 0 (length bs)) ++ z ∷ []) (sym yard-same)
       ∙ sym (map-counting-more f 0 (length bs) (length bs) (omega arith))
@@ -82,8 +82,8 @@ module _ (charge : ℕ) (n : Net) (w : Within n) where
     balances = v;
     open-stations = n .open-stations;
     road-legs = n .road-legs;
-    rule = yard-rule k (length (n .legs)) (n .open-stations) (n .rule)
-    }
+    rule = yard-rule k (length (n .legs)) (n .open-stations) (n .rule);
+  }
 
   room-report : (s : ℕ) (b : ℤ) → yarded charge (reported n s b) ≡ reported (yarded charge n) s b
   room-report s b =
@@ -95,30 +95,30 @@ module _ (charge : ℕ) (n : Net) (w : Within n) where
       let above : List ℤ = bs ++ yard-balance bs ∷ [] in
       ap (λ (k : ℕ). built k (after ++ yard-balance after ∷ [])) (length-after a (n .rule) bs ks s b)
       ∙ ap (built (length bs))
-          (stations-same a (n .rule) bs ks (marks-of yl) (yard-balance bs) s b (w .open-among)
-           ∙ ap (λ (m : ℕ). balances-after a (yard-rule (length bs) m a (n .rule)) above (ks ++ marks-of yl) s b) (length-map (n .legs) (λ (l : Leg). l .mark))
-           ∙ ap (λ (v : List Mark). balances-after a (yard-rule (length bs) (length (n .legs)) a (n .rule)) above v s b) (sym (map-append (λ (l : Leg). l .mark) (n .legs) yl)))
+      (stations-same a (n .rule) bs ks (marks-of yl) (yard-balance bs) s b (w .open-among)
+      ∙ ap (λ (m : ℕ). balances-after a (yard-rule (length bs) m a (n .rule)) above (ks ++ marks-of yl) s b) (length-map (n .legs) (λ (l : Leg). l .mark))
+      ∙ ap (λ (v : List Mark). balances-after a (yard-rule (length bs) (length (n .legs)) a (n .rule)) above v s b) (sym (map-append (λ (l : Leg). l .mark) (n .legs) yl)))
 
   room-mark : (i : ℕ) (k : Mark) → i < length (n .legs) → yarded charge (remarked n i k) ≡ remarked (yarded charge n) i k
   room-mark i k h =
       let yl : List Leg = map (yard-leg charge (length (n .balances))) (counting 0 (2 * length (n .balances))) in
       let l : Leg = with-mark k (getD (n .legs) i cleared-leg) in
       ap (λ (m : ℕ). let z : Net = record {
-            legs = set (n .legs) i l ++ yl;
-            balances = n .balances ++ yard-balance (n .balances) ∷ [];
-            open-stations = n .open-stations;
-            road-legs = n .road-legs;
-            rule = yard-rule (length (n .balances)) m (n .open-stations) (n .rule)
-          } in z) (length-set (n .legs) i l)
+        legs = set (n .legs) i l ++ yl;
+        balances = n .balances ++ yard-balance (n .balances) ∷ [];
+        open-stations = n .open-stations;
+        road-legs = n .road-legs;
+        rule = yard-rule (length (n .balances)) m (n .open-stations) (n .rule);
+      } in z) (length-set (n .legs) i l)
       ∙ ap (λ (v : List Leg). let z : Net = record {
-            legs = v;
-            balances = n .balances ++ yard-balance (n .balances) ∷ [];
-            open-stations = n .open-stations;
-            road-legs = n .road-legs;
-            rule = yard-rule (length (n .balances)) (length (n .legs)) (n .open-stations) (n .rule)
-          } in z)
-          (sym (set-append-left (n .legs) yl i l h)
-           ∙ ap (λ (x : Leg). set (n .legs ++ yl) i (with-mark k x)) (sym (getD-append-left (n .legs) yl cleared-leg i h)))
+        legs = v;
+        balances = n .balances ++ yard-balance (n .balances) ∷ [];
+        open-stations = n .open-stations;
+        road-legs = n .road-legs;
+        rule = yard-rule (length (n .balances)) (length (n .legs)) (n .open-stations) (n .rule);
+      } in z)
+      (sym (set-append-left (n .legs) yl i l h)
+      ∙ ap (λ (x : Leg). set (n .legs ++ yl) i (with-mark k x)) (sym (getD-append-left (n .legs) yl cleared-leg i h)))
 
   -- with room or without
   either-report : (t : Bool) (s : ℕ) (b : ℤ) → cond t (reported n s b) (yarded charge (reported n s b)) ≡ reported (cond t n (yarded charge n)) s b
@@ -143,9 +143,9 @@ module _ (charge : ℕ) (n : Net) (w : Within n) where
   room-fault : (ls : List Leg) (i : ℕ) (k : Mark) → mark-fault (n .road-legs) (n .legs ++ ls) i k ≡ mark-fault (n .road-legs) (n .legs) i k
   room-fault ls i k =
       ⊎-elim
-        (λ (h : i < n .road-legs). ap (λ (o : Option Leg). cond (ltb i (n .road-legs)) (cond (has-mark o k) (Some (10, i)) None) (Some (9, i))) (nth-left (n .legs) ls i (omega (arith, w .roads-among))))
-        (λ (h : n .road-legs ≤ i). cond-false (ltb i (n .road-legs)) _ _ (le-ltb i (n .road-legs) h) ∙ sym (cond-false (ltb i (n .road-legs)) _ _ (le-ltb i (n .road-legs) h)))
-        (cases-lt i (n .road-legs))
+      (λ (h : i < n .road-legs). ap (λ (o : Option Leg). cond (ltb i (n .road-legs)) (cond (has-mark o k) (Some (10, i)) None) (Some (9, i))) (nth-left (n .legs) ls i (omega (arith, w .roads-among))))
+      (λ (h : n .road-legs ≤ i). cond-false (ltb i (n .road-legs)) _ _ (le-ltb i (n .road-legs) h) ∙ sym (cond-false (ltb i (n .road-legs)) _ _ (le-ltb i (n .road-legs) h)))
+      (cases-lt i (n .road-legs))
 
   either-fault : (t : Bool) (i : ℕ) (k : Mark)
       → mark-fault (cond t n (yarded charge n) .road-legs) (cond t n (yarded charge n) .legs) i k ≡ mark-fault (n .road-legs) (n .legs) i k

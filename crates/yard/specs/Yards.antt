@@ -46,8 +46,8 @@ yard-leg charge n j = record {
   end = cond (eqb (j % 2) 0) n (j / 2);
   capacity = 500;
   charge = charge;
-  mark = Open
-  }
+  mark = Open;
+}
 
 -- a station below has what the rule below says, of the balances and marks below;
 -- the yard has the yard balance of all the balances that are below after the report
@@ -62,8 +62,8 @@ yarded charge n = record {
   balances = n .balances ++ yard-balance (n .balances) ∷ [];
   open-stations = n .open-stations;
   road-legs = n .road-legs;
-  rule = yard-rule (length (n .balances)) (length (n .legs)) (n .open-stations) (n .rule)
-  }
+  rule = yard-rule (length (n .balances)) (length (n .legs)) (n .open-stations) (n .rule);
+}
 
 -- n stations and m legs: 240 stations, or the legs would be more than 3,000
 abbrev pub full : ℕ → ℕ → Bool
@@ -87,7 +87,7 @@ room-within charge n w e =
       few-stations = omega (arith, w .few-stations);
       few-legs = omega (arith, w .few-legs);
       open-among = omega (arith, w .open-among);
-      roads-among = omega (arith, w .roads-among)
+      roads-among = omega (arith, w .roads-among);
     }
 
 -- the limits are kept with a yard and without

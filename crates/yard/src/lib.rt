@@ -7,11 +7,22 @@ ghost use lib.ListN.{length};
 ghost use Rattle.std.specs.Finite.{nth};
 ghost use Rattle.network.specs.Keeping.{below as part};
 ghost use Rattle.yard.specs.Yards.{full, held, total, with-yard, yard-balance, yard-leg, yard-within};
+use network::MOST_LEGS;
+use network::MOST_STATIONS;
 use network::Network;
 use network::Office;
 use records::Leg;
 use records::Mark;
 use records::Refusal;
+
+// The capacity of a yard's legs.
+const CAPACITY: u16 = 500;
+
+// The highest charge of a yard's legs.
+const MOST_CHARGE: u32 = 10_000;
+
+// The balance of a yard is held this far from 0.
+const MOST_HELD: i32 = 120_000;
 
 // A network with a yard, whose legs all have one charge.
 #[derive(Drop)]
@@ -25,7 +36,10 @@ impl<N> Yard<N> {
     pub fn new(below: N, charge: u32) -> Yard<N>
         ensures { λ r. ⌜ r .below ≡ below ⌝ ∗ ⌜ r .charge ≡ min charge 10000 ⌝ }
     {
-        Yard { below, charge: charge.min(10_000) }
+        Yard {
+            below,
+            charge: charge.min(MOST_CHARGE),
+        }
     }
 }
 
@@ -34,7 +48,7 @@ fn is_full(stations: usize, legs: usize) -> bool
     requires { ⌜ stations ≤ 240 ⌝ ∗ ⌜ legs ≤ 3000 ⌝ }
     ensures { λ r. ⌜ r ≡ full stations legs ⌝ }
 {
-    stations == 240 || legs + 2 * stations > 3000
+    stations == MOST_STATIONS || legs + 2 * stations > MOST_LEGS
 }
 
 // The sum of all balances.
@@ -55,11 +69,11 @@ fn sum_of<N: Network>(network: &N) -> i64
 fn hold(sum: i64) -> i32
     ensures { λ r. ⌜ r ≡ held (negℤ sum) ⌝ }
 {
-    if sum > 120_000 {
-        return -120_000;
+    if sum > MOST_HELD as i64 {
+        return -MOST_HELD;
     }
-    if sum < -120_000 {
-        return 120_000;
+    if sum < -(MOST_HELD as i64) {
+        return MOST_HELD;
     }
     -(sum as i32)
 }
@@ -72,9 +86,21 @@ fn added_leg(charge: u32, stations: usize, number: usize) -> Leg
     let station = (number / 2) as u16;
     let yard = stations as u16;
     if number % 2 == 0 {
-        Leg { start: station, end: yard, capacity: 500, charge, mark: Mark::Open }
+        Leg {
+            start: station,
+            end: yard,
+            capacity: CAPACITY,
+            charge,
+            mark: Mark::Open,
+        }
     } else {
-        Leg { start: yard, end: station, capacity: 500, charge, mark: Mark::Open }
+        Leg {
+            start: yard,
+            end: station,
+            capacity: CAPACITY,
+            charge,
+            mark: Mark::Open,
+        }
     }
 }
 
@@ -88,7 +114,11 @@ impl<N: Network> Yard<N> {
         if is_full(stations, self.below.legs()) {
             return None;
         }
-        if station == stations { Some(hold(sum_of(&self.below))) } else { None }
+        if station == stations {
+            Some(hold(sum_of(&self.below)))
+        } else {
+            None
+        }
     }
 
     // The leg at a number that no leg below has: one of the yard's, or none.
@@ -101,7 +131,11 @@ impl<N: Network> Yard<N> {
         if is_full(stations, legs) {
             return None;
         }
-        if number < legs + 2 * stations { Some(added_leg(self.charge, stations, number - legs)) } else { None }
+        if number < legs + 2 * stations {
+            Some(added_leg(self.charge, stations, number - legs))
+        } else {
+            None
+        }
     }
 }
 
@@ -112,13 +146,21 @@ pub impl<N: Network> Network for Yard<N> as YardNetwork {
 
     fn stations(&self) -> usize {
         let stations = self.below.stations();
-        if is_full(stations, self.below.legs()) { stations } else { stations + 1 }
+        if is_full(stations, self.below.legs()) {
+            stations
+        } else {
+            stations + 1
+        }
     }
 
     fn legs(&self) -> usize {
         let stations = self.below.stations();
         let legs = self.below.legs();
-        if is_full(stations, legs) { legs } else { legs + 2 * stations }
+        if is_full(stations, legs) {
+            legs
+        } else {
+            legs + 2 * stations
+        }
     }
 
     fn open_stations(&self) -> usize {

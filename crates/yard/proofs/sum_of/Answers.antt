@@ -19,12 +19,12 @@ returns-in-rest g c =
 pub loop-station-again : need.loop-station-again
 loop-station-again g c =
     let bs = g .N·Network .meaning (c .args .network .now) .balances in
-    let f : SFits w32 (c .in-Some .balance) = search needs in
-    ( total-more _ (c .loop-station .sum) (c .in-Some .balance) bs (c .loop-station .station) (omega (arith, ints)) (c .in-Some .ensures tt) (sym (c .loop-station .sum-is) ∙ c .loop-station .inv .0)
-    , omega (arith, ints)
-    , omega (arith, ints)
-    , c .loop-station .inv .3
-    , c .loop-station .inv .4
+    let f : SFits w32 (c .in-Some .balance) = search needs in (
+      total-more _ (c .loop-station .sum) (c .in-Some .balance) bs (c .loop-station .station) (omega (arith, ints)) (c .in-Some .ensures tt) (sym (c .loop-station .sum-is) ∙ c .loop-station .inv .0),
+      omega (arith, ints),
+      omega (arith, ints),
+      c .loop-station .inv .3,
+      c .loop-station .inv .4,
     )
 
 pub returns : need.returns

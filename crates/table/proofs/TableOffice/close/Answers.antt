@@ -21,8 +21,8 @@ offset-self-leg c = let h : c .args .leg < 3000 = mark-there _ _ Shut (clear c) 
 pub returns : need.returns
 returns c =
     let e : mark-fault (length (take 3000 (c .args .self .now .legs .now))) (take 3000 (c .args .self .now .legs .now)) (c .args .leg) Shut ≡ None =
-        c .in-Continue-check-mark .ensures tt in
+    c .in-Continue-check-mark .ensures tt in
     record {
       answer = (e, mark-writes _ _ _ Shut e);
-      kept = (refl, refl, mark-keeps (c .args .self .now .legs .now) (c .args .leg) Shut e, refl)
+      kept = (refl, refl, mark-keeps (c .args .self .now .legs .now) (c .args .leg) Shut e, refl);
     }

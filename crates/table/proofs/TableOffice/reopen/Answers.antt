@@ -21,8 +21,8 @@ offset-self-leg c = let h : c .args .leg < 3000 = mark-there _ _ Open (clear c) 
 pub returns : need.returns
 returns c =
     let e : mark-fault (length (take 3000 (c .args .self .now .legs .now))) (take 3000 (c .args .self .now .legs .now)) (c .args .leg) Open ≡ None =
-        c .in-Continue-check-mark .ensures tt in
+    c .in-Continue-check-mark .ensures tt in
     record {
       answer = (e, mark-writes _ _ _ Open e);
-      kept = (refl, refl, mark-keeps (c .args .self .now .legs .now) (c .args .leg) Open e, refl)
+      kept = (refl, refl, mark-keeps (c .args .self .now .legs .now) (c .args .leg) Open e, refl);
     }

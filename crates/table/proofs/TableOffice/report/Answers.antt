@@ -21,8 +21,8 @@ offset-self-station c = let h : c .args .station < 240 = report-there _ _ (c .ar
 pub returns : need.returns
 returns c =
     let e : report-fault (length (take 240 (c .args .self .now .stations .now))) (c .args .station) (c .args .balance) ≡ None =
-        report-clear _ _ _ _ (c .open-stations .ensures) (c .fits .balance) (c .in-Continue-check-report .ensures tt) in
+    report-clear _ _ _ _ (c .open-stations .ensures) (c .fits .balance) (c .in-Continue-check-report .ensures tt) in
     record {
       answer = (e, report-writes _ _ _ _ e (c .fits .balance));
-      kept = (refl, refl, refl, drop-set-lt 240 _ _ _ (report-there _ _ (c .args .balance) e .1))
+      kept = (refl, refl, refl, drop-set-lt 240 _ _ _ (report-there _ _ (c .args .balance) e .1));
     }

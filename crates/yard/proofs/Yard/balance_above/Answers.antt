@@ -23,7 +23,7 @@ returns-then-station-stations g c =
     let h : SFits w32 (c .hold .result) = search needs in
     let there : c .args .station ≡ length (n .balances) = omega (arith, c .stations-stations .ensures) in
     balance-yard (c .args .self .now .charge) n _ (c .args .station) (at-counts _ _ _ n (c .stations-stations .ensures) (c .legs .ensures) (c .if-is-full .ensures tt))
-      (toZ-ofZ w32 (c .hold .result) h ∙ c .hold .ensures ∙ ap (λ (z : ℤ). held (negℤ z)) (toZ-ofZ w64 (c .sum-of .result) f ∙ c .sum-of .ensures)) there
+    (toZ-ofZ w32 (c .hold .result) h ∙ c .hold .ensures ∙ ap (λ (z : ℤ). held (negℤ z)) (toZ-ofZ w64 (c .sum-of .result) f ∙ c .sum-of .ensures)) there
 
 pub returns-else-station-stations : need.returns-else-station-stations
 returns-else-station-stations g c =

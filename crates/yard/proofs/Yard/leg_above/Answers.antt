@@ -17,9 +17,9 @@ returns-then-number-legs g c =
     let k = c .args .self .now .charge in
     let below : c .args .number < length (n .legs) + 2 * length (n .balances) = omega (arith, c .stations-stations .ensures, c .legs-legs .ensures) in
     leg-yard k n _ (c .args .number) (at-counts _ _ _ n (c .stations-stations .ensures) (c .legs-legs .ensures) (c .if-is-full .ensures tt)) (c .pre) below
-      (c .added-leg .ensures
-       ∙ ap (λ (x : ℕ). yard-leg k x (c .args .number - c .legs-legs .result)) (c .stations-stations .ensures)
-       ∙ ap (λ (x : ℕ). yard-leg k (length (n .balances)) (c .args .number - x)) (c .legs-legs .ensures))
+    (c .added-leg .ensures
+    ∙ ap (λ (x : ℕ). yard-leg k x (c .args .number - c .legs-legs .result)) (c .stations-stations .ensures)
+    ∙ ap (λ (x : ℕ). yard-leg k (length (n .balances)) (c .args .number - x)) (c .legs-legs .ensures))
 
 pub returns-else-number-legs : need.returns-else-number-legs
 returns-else-number-legs g c =
