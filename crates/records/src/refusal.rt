@@ -16,6 +16,14 @@ pub enum Refusal {
     TablesTooShort { line: usize },
     // there are more or fewer arc lines than announced, or nothing was announced
     ArcsMiscounted { line: usize },
+    // the station that reports is not an open station
+    StationNotOpen { station: usize },
+    // the reported balance is outside -500 to 500
+    BalanceOutOfRange { station: usize },
+    // the leg to close or reopen is not a road leg
+    NotARoadLeg { leg: usize },
+    // the leg to close is shut, or the leg to reopen is open
+    MarkUnchanged { leg: usize },
 }
 
 impl Refusal {
@@ -30,10 +38,14 @@ impl Refusal {
             Refusal::FieldOutOfRange { .. } => 4,
             Refusal::TablesTooShort { .. } => 5,
             Refusal::ArcsMiscounted { .. } => 6,
+            Refusal::StationNotOpen { .. } => 7,
+            Refusal::BalanceOutOfRange { .. } => 8,
+            Refusal::NotARoadLeg { .. } => 9,
+            Refusal::MarkUnchanged { .. } => 10,
         }
     }
 
-    // Where the fault lies: the line, counted from 1, or 0 where there is none.
+    // Where the fault lies: the line, counted from 1, or 0 where there is none; the station; the leg.
     pub fn place(&self) -> usize
         ensures { λ r. ⌜ r ≡ place (now (self .entry)) ⌝ }
     {
@@ -44,6 +56,10 @@ impl Refusal {
             Refusal::FieldOutOfRange { line } => line,
             Refusal::TablesTooShort { line } => line,
             Refusal::ArcsMiscounted { line } => line,
+            Refusal::StationNotOpen { station } => station,
+            Refusal::BalanceOutOfRange { station } => station,
+            Refusal::NotARoadLeg { leg } => leg,
+            Refusal::MarkUnchanged { leg } => leg,
         }
     }
 }

@@ -1,0 +1,3 @@
+pub mod Nets
+pub mod Offices
+pub mod Keeping
