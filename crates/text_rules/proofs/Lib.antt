@@ -5,3 +5,4 @@ pub mod Ending
 pub mod Running
 pub mod Sizing
 pub mod Exact
+pub mod Legal
