@@ -1,0 +1,4 @@
+pub mod Adding
+pub mod Spelling
+pub mod Naming
+pub mod Stating
