@@ -1,16 +1,14 @@
 -- Reading lists by place, where a place past the end is absent.
-use mathlib.Core.Path.{_≡_, refl, sym, ap, _∙_}
+use mathlib.Core.Path.{_≡_, refl, ap, _∙_}
 use mathlib.Core.List.{List, [], _∷_, _++_, map}
-use Prim.Native.Nat.{ℕ, zero, suc, _+_, _-_, _<_, _≤_}
+use Prim.Native.Nat.{ℕ, zero, suc, _+_, _<_, _≤_}
 use native.Mathlib.Omega.{arith}
-use lib.ListN.{length, getD, set, take}
-use Rattle.std.specs.declared.option.Option.{Option}
+use lib.ListN.{length, getD, take}
 use Rattle.std.specs.declared.option.Option.the-variants.{Some, None}
 use Rattle.std.specs.Options.{mapped}
 use Rattle.std.specs.Finite.{nth}
 use Rattle.std.specs.Iters.{counting}
 use Rattle.std.proofs.shelf.Counted.{length-map-counting, getD-map-counting}
-use Rattle.std.proofs.shelf.Lists.{length-map, getD-append-left, getD-append-right, length-append}
 use Rattle.std.proofs.shelf.Maps.{nth-getD, nth-past}
 
 -- a map read at any place

@@ -1,15 +1,15 @@
 -- What the calls of an office answer and leave.
---   reportable       a balance that may be reported
---   report-fault     the refusal that a report meets: its number and place
+--   reportable            a balance that may be reported
+--   report-fault          the refusal that a report meets: its number and place
 --   same-mark, has-mark   tests on marks
---   mark-fault       the refusal that a closing or a reopening meets: its number and place
---   balance-after    the balance of one station after a report
---   balances-after   all balances after a report
---   reported         a network after an accepted report
---   with-mark        a leg under another mark
---   remarked         a network after an accepted closing or reopening
---   Answers          a call's answer to a fault, or to none
---   Reports, Marks   a call's answer, with the network before and after it
+--   mark-fault            the refusal that a closing or a reopening meets: its number and place
+--   Answers               a call's answer to a fault, or to none
+--   balance-after         the balance of one station after a report
+--   balances-after        all balances after a report
+--   reported              a network after an accepted report
+--   with-mark             a leg under another mark
+--   remarked              a network after an accepted closing or reopening
+--   Reports, Marks        a call's answer, with the network before and after it
 use mathlib.Core.Bool.{Bool, true, false, cond, _&&_}
 use mathlib.Core.List.{List, map}
 use mathlib.Core.Path.{_≡_}

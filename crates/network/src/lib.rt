@@ -1,7 +1,7 @@
 // What a network is: the questions that every network answers, and the calls of an office above
 // them. Each is promised by the network's meaning, so that code above is proved once for all.
 ghost use mathlib.Core.Path.{_≡_};
-ghost use Prim.Native.Nat.{ℕ, _<_, _≤_};
+ghost use Prim.Native.Nat.{_<_};
 ghost use lib.ListN.{length};
 ghost use Rattle.std.specs.Finite.{nth};
 ghost use Rattle.records.specs.declared.leg.Mark.the-variants.{Open, Shut};

@@ -1,6 +1,7 @@
 // Runs tables, promenades and piles of layers on small cases, and prints what they answer. The
 // lines are compared with the file `stdout`.
 mod calls;
+mod lender;
 mod piles;
 mod print;
 mod promenades;
@@ -15,6 +16,7 @@ fn main(rt: LibcRuntime) -> io::Result<()> {
     tables::nonsense(&rt)?;
     tables::long(&rt)?;
     tables::lent(&rt)?;
+    lender::records(&rt)?;
     promenades::short(&rt)?;
     promenades::capped(&rt)?;
     vans::limits(&rt)?;

@@ -1,7 +1,7 @@
 // A network that needs no records: up to 40 stations in a row, with a leg each way between
 // neighbours, all of one capacity and one charge.
 ghost use mathlib.Core.Path.{_≡_};
-ghost use Prim.Native.Nat.{ℕ, _<_, _≤_, min};
+ghost use Prim.Native.Nat.{_<_, _≤_, min};
 ghost use Rattle.network.specs.Keeping.{nothing};
 ghost use Rattle.promenade.specs.Promenades.{fresh, promenade, promenade-leg, promenade-within, row-legs};
 use network::Network;

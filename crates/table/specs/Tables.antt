@@ -3,8 +3,6 @@
 --   table-of       the network that the first 3,000 legs and the first 240 stations state
 --   table-within   it keeps the limits
 use mathlib.Core.List.{List, map}
-use mathlib.Core.Path.{sym}
-use Prim.Native.Nat.{ℕ, _≤_}
 use native.Mathlib.Omega.{arith}
 use lib.IntN.{ℤ}
 use lib.ListN.{length, take}

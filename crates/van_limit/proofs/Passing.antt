@@ -1,8 +1,8 @@
 -- A call below is the same call above.
 use mathlib.Core.Path.{_≡_, refl, sym, ap, _∙_}
-use mathlib.Core.Bool.{Bool, false, cond}
+use mathlib.Core.Bool.{Bool, cond}
 use mathlib.Core.List.{List, [], _∷_, map}
-use Prim.Native.Nat.{ℕ, _<_, _≤_}
+use Prim.Native.Nat.{ℕ, _<_}
 use native.Mathlib.Omega.{arith}
 use lib.Dec.{ltb}
 use lib.IntN.{ℤ}
@@ -13,9 +13,8 @@ use Rattle.std.specs.declared.result.Result.{Result}
 use Rattle.std.specs.declared.result.Result.the-variants.{Ok, Err}
 use Rattle.std.specs.Options.{mapped}
 use Rattle.std.specs.Finite.{nth}
-use Rattle.std.proofs.shelf.Lists.{length-map, map-set, getD-map}
+use Rattle.std.proofs.shelf.Lists.{map-set, getD-map}
 use Rattle.records.specs.Cleared.{cleared-leg}
-use Rattle.records.specs.Refusals.{number, place}
 use Rattle.records.specs.declared.leg.Leg.{Leg}
 use Rattle.records.specs.declared.leg.Mark.{Mark}
 use Rattle.records.specs.declared.refusal.Refusal.{Refusal}

@@ -2,7 +2,7 @@
 --   limit-leg        a leg whose capacity is at most a limit
 --   limited          a network whose legs all are so
 --   limited-within   it keeps the limits of every network
-use mathlib.Core.List.{List, map}
+use mathlib.Core.List.{map}
 use Prim.Native.Nat.{ℕ, min}
 use Rattle.std.proofs.shelf.Lists.{length-map}
 use Rattle.records.specs.declared.leg.Leg.{Leg}

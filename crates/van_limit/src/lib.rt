@@ -1,6 +1,6 @@
 // A layer over any network: no leg takes more bikes than a van. All else is as below.
 ghost use mathlib.Core.Path.{_≡_};
-ghost use Prim.Native.Nat.{ℕ, _<_, _≤_, min};
+ghost use Prim.Native.Nat.{min};
 ghost use Rattle.network.specs.Keeping.{below as part};
 ghost use Rattle.van_limit.specs.Limited.{limited, limited-within};
 use network::Network;

@@ -3,7 +3,7 @@ use mathlib.Core.Path.{_≡_, refl, sym, ap, _∙_}
 use mathlib.Core.Bool.{Bool, true, false, cond}
 use mathlib.Core.List.{List, [], _∷_, _++_, map}
 use mathlib.Core.Logic.{⊎-elim}
-use Prim.Native.Nat.{ℕ, _+_, _*_, _<_, _≤_}
+use Prim.Native.Nat.{ℕ, _*_, _<_, _≤_}
 use native.Mathlib.Omega.{arith}
 use lib.Dec.{eqb, ltb}
 use lib.IntN.{ℤ, pos}
@@ -12,13 +12,11 @@ use Rattle.std.specs.declared.option.Option.{Option}
 use Rattle.std.specs.declared.option.Option.the-variants.{Some, None}
 use Rattle.std.specs.declared.result.Result.{Result}
 use Rattle.std.specs.declared.result.Result.the-variants.{Ok, Err}
-use Rattle.std.specs.Finite.{nth}
 use Rattle.std.specs.Iters.{counting}
-use Rattle.std.proofs.shelf.Counted.{fill-by-all, getD-map-counting, length-map-counting, map-counting-more}
+use Rattle.std.proofs.shelf.Counted.{fill-by-all, getD-map-counting, map-counting-more}
 use Rattle.std.proofs.shelf.Lists.{getD-append-left, length-map, length-push, length-set, map-append, set-append-left, take-at}
 use Rattle.std.proofs.shelf.Tests.{cases-lt, cond-false, cond-true, le-ltb, lt-ltb}
 use Rattle.records.specs.Cleared.{cleared-leg}
-use Rattle.records.specs.Refusals.{number, place}
 use Rattle.records.specs.declared.leg.Leg.{Leg}
 use Rattle.records.specs.declared.leg.Mark.{Mark}
 use Rattle.records.specs.declared.refusal.Refusal.{Refusal}
@@ -28,7 +26,7 @@ use Rattle.network.proofs.Faults.{mark-road}
 use Rattle.network.proofs.Places.{nth-left}
 use Rattle.network.proofs.Reported.{length-after}
 use Rattle.yard.specs.Yards.{full, with-yard, yard-balance, yard-leg, yard-rule, yarded}
-use Rattle.yard.proofs.Answered.{same-open, same-roads}
+use Rattle.yard.proofs.Answered.{same-open}
 
 -- a report over balances bs and marks ks with a yard's balance y and its marks js beside them
 module _ (a : ℕ) (rule : Rule) (bs : List ℤ) (ks js : List Mark) (y : ℤ) (s : ℕ) (b : ℤ) (among : a ≤ length bs) where

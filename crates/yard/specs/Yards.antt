@@ -8,10 +8,10 @@
 --   full           there is no room for a yard
 --   with-yard      a network with a yard, or the network itself where that is full
 --   yard-within    it keeps the limits of every network
-use mathlib.Core.Bool.{Bool, true, false, cond, _||_}
+use mathlib.Core.Bool.{Bool, false, cond, _||_}
 use mathlib.Core.List.{List, [], _∷_, _++_, map}
-use mathlib.Core.Path.{_≡_, refl}
-use Prim.Native.Nat.{ℕ, _+_, _*_, _/_, _%_, _≤_}
+use mathlib.Core.Path.{_≡_}
+use Prim.Native.Nat.{ℕ, _+_, _*_, _/_, _%_}
 use native.Mathlib.Omega.{arith}
 use lib.Dec.{eqb, ltb}
 use lib.IntN.{ℤ, pos, negsuc, negℤ, _+ℤ_}
@@ -22,7 +22,6 @@ use Rattle.std.proofs.shelf.Counted.{length-map-counting}
 use Rattle.std.proofs.shelf.Lists.{length-append, length-push}
 use Rattle.std.proofs.shelf.Tests.{cond-both, or-parts, eqb-false, ltb-false}
 use Rattle.records.specs.declared.leg.Leg.{Leg}
-use Rattle.records.specs.declared.leg.Mark.{Mark}
 use Rattle.records.specs.declared.leg.Mark.the-variants.{Open}
 use Rattle.network.specs.Nets.{Net, Rule, Within}
 use Rattle.network.specs.Offices.{balances-after}

@@ -1,12 +1,12 @@
 // A layer over any network: a yard, one station more with a leg from and to each station below,
 // that takes up what the balances below leave over. All else is as below.
 ghost use mathlib.Core.Path.{_≡_};
-ghost use Prim.Native.Nat.{ℕ, _*_, _+_, _<_, _≤_, min};
+ghost use Prim.Native.Nat.{_*_, _+_, _<_, _≤_, min};
 ghost use lib.IntN.{negℤ};
 ghost use lib.ListN.{length};
 ghost use Rattle.std.specs.Finite.{nth};
 ghost use Rattle.network.specs.Keeping.{below as part};
-ghost use Rattle.yard.specs.Yards.{full, held, total, with-yard, yard-balance, yard-leg, yard-within};
+ghost use Rattle.yard.specs.Yards.{full, held, total, with-yard, yard-leg, yard-within};
 use network::MOST_LEGS;
 use network::MOST_STATIONS;
 use network::Network;

@@ -1,8 +1,8 @@
-use mathlib.Core.Path.{_≡_, ap, _∙_}
+use mathlib.Core.Path.{ap, _∙_}
 use Prim.Native.Nat.{ℕ, _+_, _*_, _-_, _<_, _≤_}
 use native.Mathlib.Omega.{arith}
 use lib.ListN.{length}
-use Rattle.yard.specs.Yards.{full, yard-leg}
+use Rattle.yard.specs.Yards.{yard-leg}
 use Rattle.yard.proofs.Answered.{at-counts, leg-past, leg-without, leg-yard}
 use Rattle.yard.proofs.Yard.leg_above.Needs as need
 

@@ -1,4 +1,4 @@
-use mathlib.Core.Path.{_≡_, ap, _∙_}
+use mathlib.Core.Path.{ap, _∙_}
 use Prim.Native.Nat.{ℕ, _+_}
 use Rattle.yard.proofs.Answered.{at-counts, stations-room, stations-without}
 use Rattle.yard.proofs.YardNetwork.stations.Needs as need
