@@ -79,7 +79,7 @@ fn list(
 }
 
 // Every byte as the first of a line.
-pub fn first(rt: &LibcRuntime) -> io::Result<()> {
+pub(crate) fn first(rt: &LibcRuntime) -> io::Result<()> {
     list(rt, "byte alone", "p min 1 0\n", "\n")?;
     list(rt, "byte before \" min 2 0\", first line", "", " min 2 0\n")?;
     list(rt, "byte before \" min 2 0\", second line", "p min 1 0\n", " min 2 0\n")?;
@@ -90,7 +90,7 @@ pub fn first(rt: &LibcRuntime) -> io::Result<()> {
 }
 
 // Every byte further on.
-pub fn later(rt: &LibcRuntime) -> io::Result<()> {
+pub(crate) fn later(rt: &LibcRuntime) -> io::Result<()> {
     list(rt, "byte behind \"c\"", "p min 1 0\nc", "")?;
     list(rt, "byte behind \"n 1 \"", "p min 1 0\nn 1 ", "")?;
     list(rt, "byte behind \"n 1 5\"", "p min 1 0\nn 1 5", "")?;

@@ -57,7 +57,7 @@ fn uncleared(legs: &[Leg], stations: &[Station]) -> usize {
 
 // Reads a text into tables of a given room, and prints the answer, with the records of the network
 // if `shown`, and how many records are not cleared that should be, if there are any.
-pub fn read_into(rt: &LibcRuntime, text: &[u8], room: Room, shown: bool) -> io::Result<()> {
+pub(crate) fn read_into(rt: &LibcRuntime, text: &[u8], room: Room, shown: bool) -> io::Result<()> {
     let mut legs = vec![in rt.alloc(); USED_LEG; room.legs]?;
     let mut stations = vec![in rt.alloc(); USED_STATION; room.stations]?;
     let answer = read(text, legs.as_mut_slice(), stations.as_mut_slice());
@@ -77,7 +77,7 @@ pub fn read_into(rt: &LibcRuntime, text: &[u8], room: Room, shown: bool) -> io::
 }
 
 // Reads each line in a frame.
-pub fn between(rt: &LibcRuntime, frame: &Frame, lines: &[&str]) -> io::Result<()> {
+pub(crate) fn between(rt: &LibcRuntime, frame: &Frame, lines: &[&str]) -> io::Result<()> {
     let before = frame.before;
     let behind = frame.behind;
     for line in lines {
@@ -89,7 +89,7 @@ pub fn between(rt: &LibcRuntime, frame: &Frame, lines: &[&str]) -> io::Result<()
 }
 
 // Reads each text under its name.
-pub fn named(rt: &LibcRuntime, texts: &[(&str, &str)], shown: bool) -> io::Result<()> {
+pub(crate) fn named(rt: &LibcRuntime, texts: &[(&str, &str)], shown: bool) -> io::Result<()> {
     for (name, text) in texts {
         print!(rt, "{name}: ")?;
         read_into(rt, text.as_bytes(), SMALL, shown)?;

@@ -47,7 +47,7 @@ fn over_filled(rt: &LibcRuntime, name: &str, text: &str) -> io::Result<()> {
 }
 
 // Every text, and one that is too long.
-pub fn filled_records(rt: &LibcRuntime) -> io::Result<()> {
+pub(crate) fn filled_records(rt: &LibcRuntime) -> io::Result<()> {
     for (name, text) in &TEXTS {
         over_filled(rt, name, text)?;
     }
@@ -61,7 +61,7 @@ fn over_shut(rt: &LibcRuntime, name: &str, text: &str) -> io::Result<()> {
 }
 
 // Records that were shut are open after a reading.
-pub fn shut_records(rt: &LibcRuntime) -> io::Result<()> {
+pub(crate) fn shut_records(rt: &LibcRuntime) -> io::Result<()> {
     over_shut(rt, "shut records, refused", "")?;
     over_shut(rt, "shut records, accepted", "p min 1 0\n")?;
     over_shut(rt, "shut records, one leg read", "p min 2 1\na 1 2 0 5 7\n")

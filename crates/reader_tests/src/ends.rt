@@ -26,6 +26,6 @@ const TEXTS: [(&str, &str); 20] = [
 ];
 
 // Every text.
-pub fn all(rt: &LibcRuntime) -> io::Result<()> {
+pub(crate) fn all(rt: &LibcRuntime) -> io::Result<()> {
     cases::named(rt, &TEXTS, false)
 }

@@ -105,7 +105,7 @@ fn other_legs(legs: &[Leg]) -> usize {
 }
 
 // Reads the network, and prints how many records differ from it.
-pub fn whole(rt: &LibcRuntime) -> io::Result<()> {
+pub(crate) fn whole(rt: &LibcRuntime) -> io::Result<()> {
     let text = text(rt.alloc())?;
     let mut legs = vec![in rt.alloc(); USED_LEG; 3000]?;
     let mut stations = vec![in rt.alloc(); USED_STATION; 240]?;

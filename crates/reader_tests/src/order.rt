@@ -27,6 +27,6 @@ const TEXTS: [(&str, &str); 21] = [
 ];
 
 // Every text.
-pub fn all(rt: &LibcRuntime) -> io::Result<()> {
+pub(crate) fn all(rt: &LibcRuntime) -> io::Result<()> {
     cases::named(rt, &TEXTS, false)
 }

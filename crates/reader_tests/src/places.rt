@@ -62,7 +62,7 @@ const TEXTS: [(&str, usize); 10] = [
 ];
 
 // Every text.
-pub fn all(rt: &LibcRuntime) -> io::Result<()> {
+pub(crate) fn all(rt: &LibcRuntime) -> io::Result<()> {
     for (text, calls) in &TEXTS {
         println!(rt, "{text:?}")?;
         follow(rt, text.as_bytes(), *calls)?;
@@ -71,7 +71,7 @@ pub fn all(rt: &LibcRuntime) -> io::Result<()> {
 }
 
 // A text that is too long is refused at its first line.
-pub fn too_long(rt: &LibcRuntime) -> io::Result<()> {
+pub(crate) fn too_long(rt: &LibcRuntime) -> io::Result<()> {
     let text = texts::padded(rt.alloc(), "p min 1 0\n", 65537)?;
     println!(rt, "a text of 65537 bytes")?;
     follow(rt, text.as_str().as_bytes(), 2)

@@ -6,14 +6,14 @@ use records::Station;
 use std::io;
 
 // A refusal: its number and its place.
-pub fn refusal(rt: &LibcRuntime, refusal: Refusal) -> io::Result<()> {
+pub(crate) fn refusal(rt: &LibcRuntime, refusal: Refusal) -> io::Result<()> {
     let number = refusal.number();
     let place = refusal.place();
     print!(rt, "refused {number} {place}")
 }
 
 // What a reading answered.
-pub fn answer(rt: &LibcRuntime, answer: Result<(usize, usize), Refusal>) -> io::Result<()> {
+pub(crate) fn answer(rt: &LibcRuntime, answer: Result<(usize, usize), Refusal>) -> io::Result<()> {
     match answer {
         Ok((nodes, arcs)) => print!(rt, "ok {nodes} {arcs}"),
         Err(reason) => refusal(rt, reason),
@@ -21,7 +21,7 @@ pub fn answer(rt: &LibcRuntime, answer: Result<(usize, usize), Refusal>) -> io::
 }
 
 // The balances of the stations.
-pub fn stations(rt: &LibcRuntime, stations: &[Station]) -> io::Result<()> {
+pub(crate) fn stations(rt: &LibcRuntime, stations: &[Station]) -> io::Result<()> {
     print!(rt, ", balances")?;
     for station in stations {
         let balance = station.balance;
@@ -39,7 +39,7 @@ fn mark_word(mark: Mark) -> &'static str {
 }
 
 // The fields of the legs.
-pub fn legs(rt: &LibcRuntime, legs: &[Leg]) -> io::Result<()> {
+pub(crate) fn legs(rt: &LibcRuntime, legs: &[Leg]) -> io::Result<()> {
     for leg in legs {
         let Leg { start, end, capacity, charge, mark } = *leg;
         let word = mark_word(mark);

@@ -103,7 +103,7 @@ fn wide(before: &'static str, behind: &'static str) -> Frame {
 }
 
 // Every line, where its kind may stand.
-pub fn all(rt: &LibcRuntime) -> io::Result<()> {
+pub(crate) fn all(rt: &LibcRuntime) -> io::Result<()> {
     cases::between(rt, &Frame::shown("p min 3 1\n", "\na 1 2 0 5 7\n"), &NODES)?;
     cases::between(rt, &Frame::shown("p min 3 1\n", "\n"), &ARCS)?;
     cases::between(rt, &wide("", "\n"), &PROBLEMS)?;

@@ -23,7 +23,7 @@ const TWO_ARCS_ROOMS: [(usize, usize); 9] =
 const LARGEST: [(usize, usize); 5] = [(239, 3000), (240, 2999), (240, 3000), (241, 3001), (0, 0)];
 
 // Every text and every room.
-pub fn all(rt: &LibcRuntime) -> io::Result<()> {
+pub(crate) fn all(rt: &LibcRuntime) -> io::Result<()> {
     into_each(rt, "three and two", TWO_ARCS, &TWO_ARCS_ROOMS)?;
     into_each(rt, "three and none", "p min 3 0\n", &[(2, 0), (0, 9), (3, 0)])?;
     into_each(rt, "behind a comment", TWO_ARCS_LATER, &[(2, 2), (3, 1), (3, 2)])?;

@@ -21,7 +21,7 @@ fn case(rt: &LibcRuntime, name: &str, room: Room, text: String) -> io::Result<()
 }
 
 // Texts of the greatest length and of one byte more.
-pub fn lengths(rt: &LibcRuntime) -> io::Result<()> {
+pub(crate) fn lengths(rt: &LibcRuntime) -> io::Result<()> {
     let heap = rt.alloc();
     let p = "p min 1 0\n";
     case(rt, "65536 bytes", ROOM, padded(heap, p, 65536)?)?;
@@ -33,7 +33,7 @@ pub fn lengths(rt: &LibcRuntime) -> io::Result<()> {
 }
 
 // Texts of as many lines as fit.
-pub fn many_lines(rt: &LibcRuntime) -> io::Result<()> {
+pub(crate) fn many_lines(rt: &LibcRuntime) -> io::Result<()> {
     let heap = rt.alloc();
     let p = "p min 1 0\n";
     case(rt, "65536 line ends", ROOM, repeated(heap, "", "\n", 65536)?)?;
@@ -48,7 +48,7 @@ pub fn many_lines(rt: &LibcRuntime) -> io::Result<()> {
 }
 
 // As many arcs as may be announced, one less and one more.
-pub fn many_arcs(rt: &LibcRuntime) -> io::Result<()> {
+pub(crate) fn many_arcs(rt: &LibcRuntime) -> io::Result<()> {
     let heap = rt.alloc();
     let p = "p min 2 3000\n";
     case(rt, "2999 arcs of 3000", ROOM, repeated(heap, p, ARC, 2999)?)?;

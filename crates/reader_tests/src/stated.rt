@@ -22,6 +22,6 @@ const TEXTS: [(&str, &str); 11] = [
 ];
 
 // Every text.
-pub fn all(rt: &LibcRuntime) -> io::Result<()> {
+pub(crate) fn all(rt: &LibcRuntime) -> io::Result<()> {
     cases::named(rt, &TEXTS, true)
 }

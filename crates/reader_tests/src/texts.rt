@@ -3,7 +3,7 @@ use std::alloc::AllocError;
 use std::alloc::Global;
 
 // A beginning, and then a line so many times.
-pub fn repeated(
+pub(crate) fn repeated(
     heap: Global,
     beginning: &str,
     line: &str,
@@ -17,7 +17,7 @@ pub fn repeated(
 }
 
 // A beginning, and then a comment that makes it so many bytes long.
-pub fn padded(heap: Global, beginning: &str, length: usize) -> Result<String, AllocError> {
+pub(crate) fn padded(heap: Global, beginning: &str, length: usize) -> Result<String, AllocError> {
     let mut text = repeated(heap, beginning, "c ", 1)?;
     for _ in text.len()..length {
         text.push_str("x")?;
@@ -26,7 +26,7 @@ pub fn padded(heap: Global, beginning: &str, length: usize) -> Result<String, Al
 }
 
 // A text and an end.
-pub fn followed(text: String, end: &str) -> Result<String, AllocError> {
+pub(crate) fn followed(text: String, end: &str) -> Result<String, AllocError> {
     let mut text = text;
     text.push_str(end)?;
     Ok(text)
