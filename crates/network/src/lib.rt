@@ -1,7 +1,6 @@
 // What a network is: the questions that every network answers, and the calls of an office above
 // them. Each is promised by the network's meaning, so that code above is proved once for all.
 ghost use mathlib.Core.Path.{_≡_};
-ghost use Prim.Native.Nat.{_<_};
 ghost use lib.ListN.{length};
 ghost use Rattle.std.specs.Finite.{nth};
 ghost use Rattle.records.specs.declared.leg.Mark.the-variants.{Open, Shut};
@@ -23,8 +22,10 @@ const MOST_REPORTED: i32 = 500;
 
 // The questions. A question alters nothing, and one beyond the count is answered by None.
 pub trait Network {
+    // what the network means
     ghost meaning: { Self → Net };
 
+    // that it keeps the limits of every network
     ghost limits: { (s : Self) → Within (meaning s) };
 
     // How many stations there are.
@@ -55,8 +56,10 @@ pub trait Network {
 // The calls of the office that runs a network. Each is refused with nothing altered, or accepted.
 // What a call leaves alone beside the meaning, as the memory that a network was lent, is `kept`.
 pub trait Office: Network {
+    // what stays from before a call to after it
     ghost kept: { Self → Self → Type 0 };
 
+    // that it then stays over any number of calls
     ghost keeps: { Keeps kept };
 
     // An open station reports its balance, from -500 to 500.

@@ -1,6 +1,7 @@
 // Runs tables, promenades and piles of layers on small cases, and prints what they answer. The
 // lines are compared with the file `stdout`.
 mod calls;
+mod known;
 mod lender;
 mod piles;
 mod print;
@@ -25,5 +26,6 @@ fn main(rt: LibcRuntime) -> io::Result<()> {
     piles::yard_over_yard(&rt)?;
     piles::van_limit_over_yard(&rt)?;
     piles::yard_over_van_limit(&rt)?;
-    piles::four_deep(&rt)
+    piles::four_deep(&rt)?;
+    known::legs(&rt)
 }

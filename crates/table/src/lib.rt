@@ -1,7 +1,6 @@
 // A network on lent records: the first 3,000 legs and the first 240 stations. It answers what the
 // records hold, also where that makes no sense; reports and closings are written into them.
 ghost use mathlib.Core.Path.{_≡_};
-ghost use Prim.Native.Nat.{_<_};
 ghost use denote.Ref.{name, now};
 ghost use lib.ListN.{drop};
 ghost use Rattle.table.specs.Lent.{kept-four};
