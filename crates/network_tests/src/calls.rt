@@ -4,7 +4,7 @@ use network::Office;
 use std::io;
 
 // A station reports.
-pub fn report<N: Office>(
+pub(crate) fn report<N: Office>(
     rt: &LibcRuntime,
     office: &mut N,
     station: usize,
@@ -16,21 +16,21 @@ pub fn report<N: Office>(
 }
 
 // A leg is closed.
-pub fn close<N: Office>(rt: &LibcRuntime, office: &mut N, leg: usize) -> io::Result<()> {
+pub(crate) fn close<N: Office>(rt: &LibcRuntime, office: &mut N, leg: usize) -> io::Result<()> {
     let answer = office.close(leg);
     print!(rt, "  close {leg}")?;
     print::answer(rt, answer)
 }
 
 // A leg is reopened.
-pub fn reopen<N: Office>(rt: &LibcRuntime, office: &mut N, leg: usize) -> io::Result<()> {
+pub(crate) fn reopen<N: Office>(rt: &LibcRuntime, office: &mut N, leg: usize) -> io::Result<()> {
     let answer = office.reopen(leg);
     print!(rt, "  reopen {leg}")?;
     print::answer(rt, answer)
 }
 
 // Every refusal on both sides of its limit, and which of two counts.
-pub fn refusals<N: Office>(rt: &LibcRuntime, office: &mut N) -> io::Result<()> {
+pub(crate) fn refusals<N: Office>(rt: &LibcRuntime, office: &mut N) -> io::Result<()> {
     let open = office.open_stations();
     let roads = office.road_legs();
     report(rt, office, open, 0)?;
@@ -47,7 +47,7 @@ pub fn refusals<N: Office>(rt: &LibcRuntime, office: &mut N) -> io::Result<()> {
 }
 
 // The leg that `refusals` leaves shut is opened again, twice.
-pub fn reopenings<N: Office>(rt: &LibcRuntime, office: &mut N) -> io::Result<()> {
+pub(crate) fn reopenings<N: Office>(rt: &LibcRuntime, office: &mut N) -> io::Result<()> {
     let roads = office.road_legs();
     reopen(rt, office, roads.saturating_sub(1))?;
     reopen(rt, office, roads.saturating_sub(1))

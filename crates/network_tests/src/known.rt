@@ -34,7 +34,7 @@ fn leg_of_pile(
 }
 
 // A leg from below and a leg of the yard.
-pub fn legs(rt: &LibcRuntime) -> io::Result<()> {
+pub(crate) fn legs(rt: &LibcRuntime) -> io::Result<()> {
     let mut legs = LEGS;
     let mut stations = STATIONS;
     let Some(below) = leg_of_pile(&mut legs, &mut stations, 3, 10_001, 0) else {

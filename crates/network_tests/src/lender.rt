@@ -35,7 +35,7 @@ fn close_lent(legs: &mut [Leg], stations: &mut [Station], leg: usize) -> Result<
 }
 
 // A leg is closed in lent records, which the lender then reads.
-pub fn records(rt: &LibcRuntime) -> io::Result<()> {
+pub(crate) fn records(rt: &LibcRuntime) -> io::Result<()> {
     let mut legs = LEGS;
     let mut stations = STATIONS;
     let answer = close_lent(&mut legs, &mut stations, 2);

@@ -30,7 +30,7 @@ fn run<N: Office>(rt: &LibcRuntime, name: &str, pile: &mut N) -> io::Result<()> 
 }
 
 // A yard over a yard over a table.
-pub fn yard_over_yard(rt: &LibcRuntime) -> io::Result<()> {
+pub(crate) fn yard_over_yard(rt: &LibcRuntime) -> io::Result<()> {
     let mut legs = LEGS;
     let mut stations = STATIONS;
     let table = Table {
@@ -45,7 +45,7 @@ pub fn yard_over_yard(rt: &LibcRuntime) -> io::Result<()> {
 }
 
 // A van limit over a yard over a promenade.
-pub fn van_limit_over_yard(rt: &LibcRuntime) -> io::Result<()> {
+pub(crate) fn van_limit_over_yard(rt: &LibcRuntime) -> io::Result<()> {
     let row = Promenade::new(3, 9, 2);
     run(
         rt,
@@ -55,7 +55,7 @@ pub fn van_limit_over_yard(rt: &LibcRuntime) -> io::Result<()> {
 }
 
 // A yard over a van limit over a table.
-pub fn yard_over_van_limit(rt: &LibcRuntime) -> io::Result<()> {
+pub(crate) fn yard_over_van_limit(rt: &LibcRuntime) -> io::Result<()> {
     let mut legs = LEGS;
     let mut stations = STATIONS;
     let table = Table {
@@ -70,7 +70,7 @@ pub fn yard_over_van_limit(rt: &LibcRuntime) -> io::Result<()> {
 }
 
 // A van limit over a yard over a yard over a promenade.
-pub fn four_deep(rt: &LibcRuntime) -> io::Result<()> {
+pub(crate) fn four_deep(rt: &LibcRuntime) -> io::Result<()> {
     let yards = Yard::new(Yard::new(Promenade::new(2, 9, 2), 25), 30);
     run(
         rt,

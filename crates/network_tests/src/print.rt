@@ -6,7 +6,7 @@ use records::Refusal;
 use std::io;
 
 // The four counts.
-pub fn counts<N: Network>(rt: &LibcRuntime, name: &str, network: &N) -> io::Result<()> {
+pub(crate) fn counts<N: Network>(rt: &LibcRuntime, name: &str, network: &N) -> io::Result<()> {
     let n = network.stations();
     let m = network.legs();
     let a = network.open_stations();
@@ -15,7 +15,7 @@ pub fn counts<N: Network>(rt: &LibcRuntime, name: &str, network: &N) -> io::Resu
 }
 
 // A mark as a word.
-pub fn mark_word(mark: Mark) -> &'static str {
+pub(crate) fn mark_word(mark: Mark) -> &'static str {
     match mark {
         Mark::Open => "open",
         Mark::Shut => "shut",
@@ -23,7 +23,7 @@ pub fn mark_word(mark: Mark) -> &'static str {
 }
 
 // What a leg record holds.
-pub fn leg_record(rt: &LibcRuntime, leg: Leg) -> io::Result<()> {
+pub(crate) fn leg_record(rt: &LibcRuntime, leg: Leg) -> io::Result<()> {
     let Leg {
         start,
         end,
@@ -39,7 +39,7 @@ pub fn leg_record(rt: &LibcRuntime, leg: Leg) -> io::Result<()> {
 }
 
 // A leg, or that there is none.
-pub fn leg<N: Network>(rt: &LibcRuntime, network: &N, number: usize) -> io::Result<()> {
+pub(crate) fn leg<N: Network>(rt: &LibcRuntime, network: &N, number: usize) -> io::Result<()> {
     print!(rt, "  leg {number}: ")?;
     let Some(leg) = network.leg(number) else {
         return println!(rt, "absent");
@@ -48,7 +48,7 @@ pub fn leg<N: Network>(rt: &LibcRuntime, network: &N, number: usize) -> io::Resu
 }
 
 // A balance, or that there is none.
-pub fn balance<N: Network>(rt: &LibcRuntime, network: &N, station: usize) -> io::Result<()> {
+pub(crate) fn balance<N: Network>(rt: &LibcRuntime, network: &N, station: usize) -> io::Result<()> {
     let Some(balance) = network.balance(station) else {
         return println!(rt, "  station {station}: absent");
     };
@@ -56,14 +56,14 @@ pub fn balance<N: Network>(rt: &LibcRuntime, network: &N, station: usize) -> io:
 }
 
 // Everything that a network answers, and one number beyond each count.
-pub fn all<N: Network>(rt: &LibcRuntime, name: &str, network: &N) -> io::Result<()> {
+pub(crate) fn all<N: Network>(rt: &LibcRuntime, name: &str, network: &N) -> io::Result<()> {
     counts(rt, name, network)?;
     balances(rt, network)?;
     legs(rt, network)
 }
 
 // Every balance, and one number beyond.
-pub fn balances<N: Network>(rt: &LibcRuntime, network: &N) -> io::Result<()> {
+pub(crate) fn balances<N: Network>(rt: &LibcRuntime, network: &N) -> io::Result<()> {
     for station in 0..network.stations() + 1 {
         balance(rt, network, station)?;
     }
@@ -71,7 +71,7 @@ pub fn balances<N: Network>(rt: &LibcRuntime, network: &N) -> io::Result<()> {
 }
 
 // Every leg, and one number beyond.
-pub fn legs<N: Network>(rt: &LibcRuntime, network: &N) -> io::Result<()> {
+pub(crate) fn legs<N: Network>(rt: &LibcRuntime, network: &N) -> io::Result<()> {
     for number in 0..network.legs() + 1 {
         leg(rt, network, number)?;
     }
@@ -79,7 +79,7 @@ pub fn legs<N: Network>(rt: &LibcRuntime, network: &N) -> io::Result<()> {
 }
 
 // What a call answered.
-pub fn answer(rt: &LibcRuntime, answer: Result<(), Refusal>) -> io::Result<()> {
+pub(crate) fn answer(rt: &LibcRuntime, answer: Result<(), Refusal>) -> io::Result<()> {
     let Err(refusal) = answer else {
         return println!(rt, ": accepted");
     };

@@ -53,7 +53,7 @@ pub const STATIONS: [Station; 3] = [
 ];
 
 // All that a small table answers, before and after calls.
-pub fn small(rt: &LibcRuntime) -> io::Result<()> {
+pub(crate) fn small(rt: &LibcRuntime) -> io::Result<()> {
     let mut legs = LEGS;
     let mut stations = STATIONS;
     let mut table = Table {
@@ -68,7 +68,7 @@ pub fn small(rt: &LibcRuntime) -> io::Result<()> {
 }
 
 // A table answers what its records hold, also where that makes no sense; and one with no records.
-pub fn nonsense(rt: &LibcRuntime) -> io::Result<()> {
+pub(crate) fn nonsense(rt: &LibcRuntime) -> io::Result<()> {
     let mut legs = [Leg {
         start: 7,
         end: 7,
@@ -103,7 +103,7 @@ pub fn nonsense(rt: &LibcRuntime) -> io::Result<()> {
 }
 
 // The first 3,000 legs and the first 240 stations count.
-pub fn long(rt: &LibcRuntime) -> io::Result<()> {
+pub(crate) fn long(rt: &LibcRuntime) -> io::Result<()> {
     let mut legs = [SPARE; 3001];
     let mut stations = [Station { balance: 1 }; 241];
     let mut table = Table {
@@ -126,7 +126,7 @@ pub fn long(rt: &LibcRuntime) -> io::Result<()> {
 }
 
 // The lender finds the calls in its records.
-pub fn lent(rt: &LibcRuntime) -> io::Result<()> {
+pub(crate) fn lent(rt: &LibcRuntime) -> io::Result<()> {
     let mut legs = LEGS;
     let mut stations = STATIONS;
     {

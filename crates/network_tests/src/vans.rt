@@ -12,7 +12,7 @@ use van_limit::VanLimit;
 use van_limit::VanLimitNetwork;
 
 // Limits below, between and above capacities, and above the highest limit.
-pub fn limits(rt: &LibcRuntime) -> io::Result<()> {
+pub(crate) fn limits(rt: &LibcRuntime) -> io::Result<()> {
     let mut legs = LEGS;
     let mut stations = STATIONS;
     legs[0].capacity = 501;

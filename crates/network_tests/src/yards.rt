@@ -27,7 +27,7 @@ fn over(rt: &LibcRuntime, stations: &mut [Station], charge: u32) -> io::Result<(
 }
 
 // The negated sum, on both sides of where it is held, and beyond 32 bits.
-pub fn sums(rt: &LibcRuntime) -> io::Result<()> {
+pub(crate) fn sums(rt: &LibcRuntime) -> io::Result<()> {
     over(rt, &mut [], 25)?;
     over(rt, &mut [Station { balance: 3 }], 25)?;
     over(rt, &mut [Station { balance: 120_000 }], 10_000)?;
@@ -88,7 +88,7 @@ fn counted(
 }
 
 // Networks with room for a yard and without, on both sides.
-pub fn room(rt: &LibcRuntime) -> io::Result<()> {
+pub(crate) fn room(rt: &LibcRuntime) -> io::Result<()> {
     let plain = Leg {
         start: 0,
         end: 1,
