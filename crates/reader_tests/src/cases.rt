@@ -29,12 +29,12 @@ pub struct Frame {
 
 impl Frame {
     // A frame with small tables.
-    pub fn small(before: &'static str, behind: &'static str) -> Frame {
+    pub(crate) fn small(before: &'static str, behind: &'static str) -> Frame {
         Frame { before, behind, room: SMALL, shown: false }
     }
 
     // A frame with small tables and the network printed.
-    pub fn shown(before: &'static str, behind: &'static str) -> Frame {
+    pub(crate) fn shown(before: &'static str, behind: &'static str) -> Frame {
         Frame { before, behind, room: SMALL, shown: true }
     }
 }
