@@ -1,0 +1,5 @@
+pub mod Sums
+pub mod Arcing
+pub mod Best
+pub mod Cutting
+pub mod Pricing
