@@ -36,7 +36,7 @@ abbrev pub arcs-of : Net → List ℕ → List (Arc (ℤ × ℤ))
 arcs-of net standing = arcs (net .legs) (amount standing)
 
 -- ---- the fee of a leg
-bends : (charge s : ℕ) → Convex both-group (leg-fee charge s)
+pub bends : (charge s : ℕ) → Convex both-group (leg-fee charge s)
 unfolding Convex
 bends charge s k = (omega (arith, ints), λ _. omega (arith, ints))
 
@@ -110,3 +110,21 @@ placed net standing h = each (λ a. (a .from < stations net) × (a .to < station
 
 pub joined : (net : Net) → EndsBelow net → (k : ℕ) → k < length (net .legs) → Joined net k
 joined net e k h = record { there = h; start-below = e k h .0; end-below = e k h .1 }
+
+-- ---- an arc by its number; a cleared leg stands for one that is not there
+abbrev pub no-arc : Arc (ℤ × ℤ)
+no-arc = arc cleared-leg 0
+
+pub arcs-length : (ls : List Leg) (s : ℕ → ℕ) → length (arcs ls s) ≡ length ls
+arcs-length [] s = refl
+arcs-length (l ∷ ls) s = ap suc (arcs-length ls (λ k. s (suc k)))
+
+pub arcs-at : (ls : List Leg) (s : ℕ → ℕ) (k : ℕ) → k < length ls → getD (arcs ls s) k no-arc ≡ arc (getD ls k cleared-leg) (s k)
+arcs-at [] s k h = absurd (omega arith)
+arcs-at (l ∷ ls) s zero h = refl
+arcs-at (l ∷ ls) s (suc k) h = arcs-at ls (λ k. s (suc k)) k (omega arith)
+
+pub convex-at : (ls : List Leg) (s : ℕ → ℕ) (k : ℕ) → Convex both-group (getD (arcs ls s) k no-arc .fee)
+convex-at [] s k = bends 0 0
+convex-at (l ∷ ls) s zero = bends (l .charge) (s 0)
+convex-at (l ∷ ls) s (suc k) = convex-at ls (λ k. s (suc k)) k

@@ -55,7 +55,7 @@ best net standing plan π e h c =
     }
 
 -- a step at its cents, with its bikes
-with-bikes : (net : Net) (standing plan : List ℕ) (u v : ℕ) (c : ℤ) → CentsStep net plan u v c → (b : ℤ) × BothStep net standing plan u v (c, b)
+pub with-bikes : (net : Net) (standing plan : List ℕ) (u v : ℕ) (c : ℤ) → CentsStep net plan u v c → (b : ℤ) × BothStep net standing plan u v (c, b)
 with-bikes net standing plan u v c (forward k j p q i e) = (step-bikes standing plan forth k, forward k j p q i (ap (λ z. (z, step-bikes standing plan forth k)) e))
 with-bikes net standing plan u v c (backward k j p q i e) = (step-bikes standing plan back k, backward k j p q i (ap (λ z. (z, step-bikes standing plan back k)) e))
 

@@ -19,6 +19,26 @@ pub at-most-up : {A : Type 0} (G : OrderedGroup A) (o : Option A) (s t : A) → 
 at-most-up G None s t h k = absurd k
 at-most-up G (Some a) s t h k = G .le-trans _ _ _ k h
 
+-- ---- the same steps and starts in other words
+module _ {A : Type 0} (G : OrderedGroup A) {F F′ : ℕ → Type 0} {S S′ : ℕ → ℕ → A → Type 0} (f : (v : ℕ) → F v → F′ v) (s : (u v : ℕ) (c : A) → S u v c → S′ u v c) where
+  pub walk-map : {v : ℕ} {us : List ℕ} {t : A} → Walk G F S v us t → Walk G F′ S′ v us t
+  walk-map (start {v = v} h) = start (f v h)
+  walk-map (step {u = u} {v = v} {c = c} w h) = step (walk-map w) (s u v c h)
+
+  pub simple-map : (v : ℕ) (t : A) → SimpleWalk G F S v t → SimpleWalk G F′ S′ v t
+  simple-map v t w = record { before = w .before; walk = walk-map (w .walk); once = w .once }
+
+module _ {A : Type 0} (G : OrderedGroup A) {S S′ : ℕ → ℕ → A → Type 0} (s : (u v : ℕ) (c : A) → S u v c → S′ u v c) where
+  way-map : {o v : ℕ} {us : List ℕ} {t : A} → Way G S o v us t → Way G S′ o v us t
+  way-map rest = rest
+  way-map (go {u = u} {v = v} {c = c} w h) = go (way-map w) (s u v c h)
+
+  pub trip-map : RoundTrip G S → RoundTrip G S′
+  trip-map r = record { at = r .at; through = r .through; total = r .total; way = way-map (r .way); once = r .once; below = r .below }
+
+pub price-map : {A : Type 0} (G : OrderedGroup A) {F F′ : ℕ → Type 0} {S S′ : ℕ → ℕ → A → Type 0} → ((v : ℕ) → F v → F′ v) → ((v : ℕ) → F′ v → F v) → ((u v : ℕ) (c : A) → S u v c → S′ u v c) → ((u v : ℕ) (c : A) → S′ u v c → S u v c) → (v : ℕ) (t : A) → Price G F S v t → Price G F′ S′ v t
+price-map G f f′ s s′ v t p = record { attained = simple-map G f s v t (p .attained); least = λ r w. p .least r (simple-map G f′ s′ v r w) }
+
 -- ---- labels of reached stations that no step undercuts: no round trip below zero
 module _ {A : Type 0} (G : OrderedGroup A) (S : ℕ → ℕ → A → Type 0) (R : ℕ → Type 0) (d : ℕ → A) (held : (u v : ℕ) (c : A) → R u → S u v c → R v × G .le (d v) (G .add (d u) c)) where
   onward : {o v : ℕ} {us : List ℕ} {t : A} → R o → Way G S o v us t → R v × G .le (d v) (G .add (d o) t)
@@ -76,12 +96,32 @@ module _ {A : Type 0} (G : OrderedGroup A) (F : ℕ → Type 0) (S : ℕ → ℕ
               G .le-trans _ _ _ (rw (q .sum) (rw (Adding.unit-right G (q .first)) at (G .shift _ _ (q .first) h))) below)
           | inr g ↦ inl (record { trip = record { at = v; through = q .since; total = q .second; way = q .way; once = q .once (r .1 .once) .1; below = g }; before = q .before; total = q .first; walk = q .walk }) ] ] ]
 
-  -- ---- prices and steps
+  -- ---- prices, steps and least totals
   pub reduced : (Reached G F S → ⊥) → (u v : ℕ) (c s t : A) → S u v c → Price G F S u s → Price G F S v t → G .le t (G .add s c)
   reduced none u v c s t k p q =
       elim (shorten (step (p .attained .walk) k))
       [ inl r ↦ absurd (none r)
       | inr r ↦ G .le-trans _ _ _ (q .least (r .0) (r .1)) (r .2) ]
+
+  pub price-unique : (v : ℕ) (s t : A) → Price G F S v s → Price G F S v t → s ≡ t
+  price-unique v s t p q = G .le-antisym _ _ (p .least t (q .attained)) (q .least s (p .attained))
+
+  pub price-least : (Reached G F S → ⊥) → (v : ℕ) (t : A) → Price G F S v t → Least G F S v t
+  price-least none v t p =
+      record {
+        before = p .attained .before;
+        attained = p .attained .walk;
+        least = λ us s w. elim (shorten w) [ inl r ↦ absurd (none r) | inr r ↦ G .le-trans _ _ _ (p .least (r .0) (r .1)) (r .2) ]
+      }
+
+  simple-least : (v : ℕ) (t : A) → Least G F S v t → Short v t → SimpleWalk G F S v t
+  simple-least v t l r = let e : r .0 ≡ t = G .le-antisym _ _ (r .2) (l .least (r .1 .before) (r .0) (r .1 .walk)) in rw e at (r .1)
+
+  pub least-price : (Reached G F S → ⊥) → (v : ℕ) (t : A) → Least G F S v t → Price G F S v t
+  least-price none v t l =
+      elim (shorten (l .attained))
+      [ inl r ↦ absurd (none r)
+      | inr r ↦ record { attained = simple-least v t l r; least = λ s k. l .least (k .before) s (k .walk) } ]
 
   -- ---- labels
   module _ (R : ℕ → Type 0) (d : ℕ → A) (L : Label G F S R d) where
@@ -98,14 +138,8 @@ module _ {A : Type 0} (G : OrderedGroup A) (F : ℕ → Type 0) (S : ℕ → ℕ
     pub least-total : (v : ℕ) (us : List ℕ) → Walk G F S v us (d v) → Least G F S v (d v)
     least-total v us w = record { before = us; attained = w; least = λ us′ s k. under k .1 }
 
-    simple-total : (v : ℕ) → Short v (d v) → SimpleWalk G F S v (d v)
-    simple-total v r = let e : r .0 ≡ d v = G .le-antisym _ _ (r .2) (under (r .1 .walk) .1) in rw e at (r .1)
-
     pub price : (v : ℕ) (us : List ℕ) → Walk G F S v us (d v) → Price G F S v (d v)
-    price v us w =
-        elim (shorten w)
-        [ inl r ↦ absurd (no-trip r)
-        | inr r ↦ record { attained = simple-total v r; least = λ s k. under (k .walk) .1 } ]
+    price v us w = least-price no-trip v (d v) (least-total v us w)
 
   -- ---- rounds of relaxing
   module _ (U : ℕ → ℕ → A → Type 0) (E : Rounds G F S U) where

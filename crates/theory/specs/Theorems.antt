@@ -9,6 +9,8 @@
 --   LabelsAreLeast     labels that no step undercuts and that walks attain are least totals, and prices
 --   LabelsExcludeRoundTrips   such labels, attained or not, admit no reached round trip below zero
 --   ReducedCostOfPrices       prices where no round trip totals below zero
+--   PriceIsLeast       where no round trip below zero is reached, a price is the least total of all walks, and the other way round
+--   LeastTotalsExist   where no round trip below zero is reached
 --   FewDistinct        the pigeonhole
 --   RoundsReach        what k rounds of relaxing reach
 --   RoundsShowTrip     a total below what n - 1 rounds reach
@@ -61,6 +63,16 @@ LabelsExcludeRoundTrips {A} G = (f r : ℕ → Bool) (es : List (Edge A)) (d : �
 -- price(end) ≤ price(start) + cost for every step
 abbrev pub ReducedCostOfPrices : {A : Type 0} → OrderedGroup A → Type 0
 ReducedCostOfPrices {A} G = (f : ℕ → Bool) (es : List (Edge A)) → (Reached G (Passes f) (Among es) → ⊥) → (u v : ℕ) (c s t : A) → Among es u v c → Price G (Passes f) (Among es) u s → Price G (Passes f) (Among es) v t → G .le t (G .add s c)
+
+-- a station has one price, and it is the least total of all walks, simple or not
+abbrev pub PriceIsLeast : {A : Type 0} → OrderedGroup A → Type 0
+PriceIsLeast {A} G = (f : ℕ → Bool) (es : List (Edge A)) → (Reached G (Passes f) (Among es) → ⊥) → (v : ℕ) (s t : A) → (Price G (Passes f) (Among es) v s → Least G (Passes f) (Among es) v s) × (Least G (Passes f) (Among es) v s → Price G (Passes f) (Among es) v s) × (Price G (Passes f) (Among es) v s → Price G (Passes f) (Among es) v t → s ≡ t)
+
+-- stations are below m + 1: a station that some walk reaches has a least total and a price
+abbrev pub LeastTotalsExist : {A : Type 0} → OrderedGroup A → Type 0
+LeastTotalsExist {A} G =
+    (f : ℕ → Bool) (es : List (Edge A)) → (Reached G (Passes f) (Among es) → ⊥) → (m : ℕ) → ((u v : ℕ) (c : A) → Among es u v c → u < suc m)
+    → (v : ℕ) → v < suc m → (us : List ℕ) (t : A) → Walk G (Passes f) (Among es) v us t → (s : A) × Least G (Passes f) (Among es) v s × Price G (Passes f) (Among es) v s
 
 -- different numbers below n are at most n
 abbrev pub FewDistinct : Type 0

@@ -2,7 +2,7 @@
 ghost use mathlib.Core.Path.{_≡_};
 ghost use lib.IntN.{ℤ};
 ghost use Rattle.theory.specs.Groups.{OrderedGroup, whole, paired};
-ghost use Rattle.theory.specs.Theorems.{CutHolds, Exchange, FewDistinct, FullCut, LabelsAreLeast, LabelsExcludeRoundTrips, LeastAtOneLeg, PushAlongTrail, ReducedCostOfPrices, RoundTripIsTrail, RoundTripsRemoved, RoundsReach, RoundsShowTrip, UndercutByNoStep};
+ghost use Rattle.theory.specs.Theorems.{CutHolds, Exchange, FewDistinct, FullCut, LabelsAreLeast, LabelsExcludeRoundTrips, LeastAtOneLeg, LeastTotalsExist, PriceIsLeast, PushAlongTrail, ReducedCostOfPrices, RoundTripIsTrail, RoundTripsRemoved, RoundsReach, RoundsShowTrip, UndercutByNoStep};
 
 // What costs are added and compared in: an ordered group.
 pub trait Grouped {
@@ -77,6 +77,20 @@ pub fn labels_exclude_round_trips_below_zero<K: Grouped>() -> u8
 // Where no round trip below zero is reached, prices meet the reduced-cost condition on every step.
 pub fn prices_meet_reduced_costs<K: Grouped>() -> u8
     ensures { λ _. ⌜ ReducedCostOfPrices (K·Grouped .group) ⌝ }
+{
+    0
+}
+
+// Where no round trip below zero is reached, a price is the least total of all walks, and a station has one.
+pub fn prices_are_least_totals<K: Grouped>() -> u8
+    ensures { λ _. ⌜ PriceIsLeast (K·Grouped .group) ⌝ }
+{
+    0
+}
+
+// Where no round trip below zero is reached, every station that a walk reaches has a least total and a price.
+pub fn least_totals_exist<K: Grouped>() -> u8
+    ensures { λ _. ⌜ LeastTotalsExist (K·Grouped .group) ⌝ }
 {
     0
 }
