@@ -37,9 +37,18 @@ mod tests {
 
     #[test]
     fn second_part_decides_between_equal_first_parts() -> Result<(), Fail> {
-        let near = Pair { first: Cents(120), second: Bikes(5) };
-        let far = Pair { first: Cents(120), second: Bikes(9) };
-        let dear = Pair { first: Cents(130), second: Bikes(0) };
+        let near = Pair {
+            first: Cents(120),
+            second: Bikes(5),
+        };
+        let far = Pair {
+            first: Cents(120),
+            second: Bikes(9),
+        };
+        let dear = Pair {
+            first: Cents(130),
+            second: Bikes(0),
+        };
         check(near.at_most(far))?;
         check(!far.at_most(near))?;
         check(far.below(dear))

@@ -21,15 +21,24 @@ pub impl<A: Cost, B: Cost> Cost for Pair<A, B> as PairCost {
     ghost size = { λ p. max (A·Cost .size (p .first)) (B·Cost .size (p .second)) };
 
     fn zero() -> Pair<A, B> {
-        Pair { first: A::zero(), second: B::zero() }
+        Pair {
+            first: A::zero(),
+            second: B::zero(),
+        }
     }
 
     fn sum(self, other: Pair<A, B>) -> Pair<A, B> {
-        Pair { first: self.first.sum(other.first), second: self.second.sum(other.second) }
+        Pair {
+            first: self.first.sum(other.first),
+            second: self.second.sum(other.second),
+        }
     }
 
     fn negative(self) -> Pair<A, B> {
-        Pair { first: self.first.negative(), second: self.second.negative() }
+        Pair {
+            first: self.first.negative(),
+            second: self.second.negative(),
+        }
     }
 
     fn at_most(self, other: Pair<A, B>) -> bool {

@@ -6,7 +6,7 @@ use Prim.Native.Nat.{ℕ, zero, suc, _+_, _*_, _≤_, _<_}
 use native.Mathlib.Omega.{arith}
 use borrow.Author.Differences.{ints}
 use lib.Dec.{eqb, leb, ltb}
-use lib.IntN.{ℤ, pos, negsuc, negℤ, _-ℤ_}
+use lib.IntN.{ℤ, pos, negsuc, negℤ}
 use lib.ListN.{length, getD}
 use Rattle.std.specs.shelf.Lists.{All}
 use Rattle.records.specs.Cleared.{cleared-leg}
@@ -15,7 +15,7 @@ use Rattle.theory.specs.Groups.{two}
 use Rattle.theory.specs.Arcs.{Arc, gather, Feasible, fees, Convex, outward}
 use Rattle.theory.specs.Arcs
 use Rattle.network.specs.Nets.{Net}
-use Rattle.plans.specs.Plans.{sum-below, stations, leg-at, amount, balance-at, in-force, bikes-out, bikes-in, Fits, Obeys, cents, apart, difference, EndsBelow}
+use Rattle.plans.specs.Plans.{sum-below, stations, amount, balance-at, in-force, bikes-out, bikes-in, Fits, Obeys, cents, apart, difference, EndsBelow}
 use Rattle.plans.specs.Residuals.{Joined, both-group}
 use Rattle.plans.specs.Cuts.{leaving, among}
 use Rattle.plans.proofs.Sums.{sum-front}
@@ -82,7 +82,7 @@ pub feasible : (net : Net) (standing plan : List ℕ) → Obeys net plan → Fea
 feasible net standing plan h =
     record {
       fits = fits net standing plan (h .fits);
-      balanced = λ v l. rw (gathered-out net standing plan v (h .fits .one-each), gathered-in net standing plan v (h .fits .one-each)) (h .balanced v l)
+      balanced = λ v l. rw (gathered-out net standing plan v (h .fits .one-each), gathered-in net standing plan v (h .fits .one-each)) (h .balanced v l);
     }
 
 paid-legs : (ls : List Leg) (s : ℕ → ℕ) (xs : List ℕ) → length xs ≡ length ls → fees both-group (arcs ls s) xs ≡ (pos (sum-below (length ls) (λ k. getD ls k cleared-leg .charge * getD xs k 0)), pos (sum-below (length ls) (λ k. apart (getD xs k 0) (s k))))

@@ -1,24 +1,22 @@
 -- The best plan admits no round trip below zero: one bike sent around it would make a better plan.
 use mathlib.Core.Path.{_≡_, refl, sym, _∙_, ap, subst}
-use mathlib.Core.List.{List, [], _∷_}
+use mathlib.Core.List.{List}
 use mathlib.Core.Bool.{cond}
 use Prim.Native.Nat.{ℕ, zero, suc, _+_, _≤_, _<_}
 use native.Mathlib.Omega.{arith}
 use borrow.Author.Differences.{ints}
 use lib.Dec.{ltb}
-use lib.IntN.{ℤ, pos, negsuc, negℤ, _+ℤ_, _-ℤ_}
+use lib.IntN.{ℤ, pos, negsuc, negℤ, _+ℤ_}
 use lib.ListN.{length, getD}
-use lib.Signed.{_≤ℤ_}
 use Rattle.network.specs.Nets.{Net}
 use Rattle.theory.specs.Groups.{whole}
-use Rattle.theory.specs.Arcs.{Arc, gather, fees}
 use Rattle.theory.specs.Walks.{Way, rest, go, RoundTrip}
-use Rattle.theory.specs.Trails.{Pushed, up, down, Residual, Around}
+use Rattle.theory.specs.Trails.{Pushed, up, down, Residual}
 use Rattle.theory.proofs.Walking
 use Rattle.theory.proofs.Pushing
 use Rattle.theory.proofs.Cycles
-use Rattle.plans.specs.Plans.{stations, leg-at, amount, balance-at, in-force, bikes-out, bikes-in, Fits, Obeys, cents, difference, CheapestThenNearest}
-use Rattle.plans.specs.Residuals.{back, Step, forward, backward, CentsStep, BothStep, both-group}
+use Rattle.plans.specs.Plans.{leg-at, amount, Obeys, cents, difference, CheapestThenNearest}
+use Rattle.plans.specs.Residuals.{forward, backward, CentsStep, BothStep, both-group}
 use Rattle.plans.specs.Prices.{BothRoundTrip, CentsRoundTrip}
 use Rattle.plans.proofs.Arcing.{arc, arcs-of, no-arc, one-more, one-less, arcs-length, arcs-at, convex-at, gathered-out, gathered-in, paid}
 use Rattle.plans.proofs.Best.{with-bikes}
@@ -36,14 +34,18 @@ module _ (net : Net) (standing plan : List ℕ) where
 
   residual : (u v : ℕ) (c : ℤ × ℤ) → BothStep net standing plan u v c → Residual both-group no-arc (arcs-of net standing) plan u v c
   residual u v c (forward k j p q h e) =
-      let a = at k (j .there) in
-      (k, up (among-arcs k (j .there)) (ap (λ z. z .from) a ∙ p) (ap (λ z. z .to) a ∙ q) (subst (λ z. amount plan k < z .room) (sym a) h)
-        (e ∙ sym (one-more (leg-at net k .charge) (amount standing k) (amount plan k)) ∙ ap (λ z. both-group .add (z .fee (suc (amount plan k))) (both-group .neg (z .fee (amount plan k)))) (sym a)))
+      let a = at k (j .there) in (
+        k,
+        up (among-arcs k (j .there)) (ap (λ z. z .from) a ∙ p) (ap (λ z. z .to) a ∙ q) (subst (λ z. amount plan k < z .room) (sym a) h)
+            (e ∙ sym (one-more (leg-at net k .charge) (amount standing k) (amount plan k)) ∙ ap (λ z. both-group .add (z .fee (suc (amount plan k))) (both-group .neg (z .fee (amount plan k)))) (sym a)),
+      )
   residual u v c (backward k j p q h e) =
       let a = at k (j .there) in
-      let b = before (amount plan k) h in
-      (k, down (b .0) (among-arcs k (j .there)) (ap (λ z. z .to) a ∙ p) (ap (λ z. z .from) a ∙ q) (b .1)
-        (e ∙ ap (λ z. (negℤ (pos (leg-at net k .charge)), cond (ltb (amount standing k) z) (negsuc 0) (pos 1))) (b .1) ∙ sym (one-less (leg-at net k .charge) (amount standing k) (b .0)) ∙ ap (λ z. both-group .add (z .fee (b .0)) (both-group .neg (z .fee (suc (b .0))))) (sym a)))
+      let b = before (amount plan k) h in (
+        k,
+        down (b .0) (among-arcs k (j .there)) (ap (λ z. z .to) a ∙ p) (ap (λ z. z .from) a ∙ q) (b .1)
+            (e ∙ ap (λ z. (negℤ (pos (leg-at net k .charge)), cond (ltb (amount standing k) z) (negsuc 0) (pos 1))) (b .1) ∙ sym (one-less (leg-at net k .charge) (amount standing k) (b .0)) ∙ ap (λ z. both-group .add (z .fee (b .0)) (both-group .neg (z .fee (suc (b .0))))) (sym a)),
+      )
 
   -- the plan after one bike went around
   still-obeys : (o : ℕ) (ks ys : List ℕ) (c : ℤ × ℤ) → Obeys net plan → Pushed both-group no-arc (arcs-of net standing) plan 1 o o ks c ys → Obeys net ys
@@ -51,7 +53,7 @@ module _ (net : Net) (standing plan : List ℕ) where
       let l : length ys ≡ length (net .legs) = p .as-long ∙ arcs-length (net .legs) (amount standing) in
       record {
         fits = record { one-each = l; within = λ k i. subst (λ z. amount ys k ≤ z .room) (at k i) (p .fits k (among-arcs k i)) };
-        balanced = λ v i. omega (arith, ints, h .balanced v i, p .moved v, gathered-out net standing ys v l, gathered-in net standing ys v l, gathered-out net standing plan v (h .fits .one-each), gathered-in net standing plan v (h .fits .one-each))
+        balanced = λ v i. omega (arith, ints, h .balanced v i, p .moved v, gathered-out net standing ys v l, gathered-in net standing ys v l, gathered-out net standing plan v (h .fits .one-each), gathered-in net standing plan v (h .fits .one-each));
       }
 
   costs-more : (o : ℕ) (ks ys : List ℕ) (c : ℤ × ℤ) → Obeys net plan → Obeys net ys → Pushed both-group no-arc (arcs-of net standing) plan 1 o o ks c ys → _≡_ {A = ℤ × ℤ} (pos (cents net ys), pos (difference net standing ys)) (both-group .add (pos (cents net plan), pos (difference net standing plan)) c)
@@ -69,7 +71,7 @@ module _ (net : Net) (standing plan : List ℕ) where
       let o = b .obeys in
       let e : length plan ≡ length (arcs-of net standing) = o .fits .one-each ∙ sym (arcs-length (net .legs) (amount standing)) in
       let f : (k : ℕ) → k < length (arcs-of net standing) → getD plan k 0 ≤ getD (arcs-of net standing) k no-arc .room =
-        λ k i. let h : k < length (net .legs) = rw (arcs-length (net .legs) (amount standing)) at i in subst (λ z. amount plan k ≤ z .room) (sym (at k h)) (o .fits .within k h) in
+      λ k i. let h : k < length (net .legs) = rw (arcs-length (net .legs) (amount standing)) at i in subst (λ z. amount plan k ≤ z .room) (sym (at k h)) (o .fits .within k h) in
       let p = Pushing.push both-group no-arc (arcs-of net standing) plan e f (r .trail) in
       let q = still-obeys (t .at) (r .legs) (r .after) (t .total) o p in
       t .below (not-below (t .total) _ _ _ _ (costs-more (t .at) (r .legs) (r .after) (t .total) o q p) (b .cheapest (r .after) q) (b .nearest (r .after) q))

@@ -1,8 +1,8 @@
 -- A potential that no residual step undercuts: the plan is cheapest, then nearest, and no round trip totals below zero.
-use mathlib.Core.Path.{_≡_, refl, sym, _∙_, ap}
+use mathlib.Core.Path.{refl, sym, _∙_, ap}
 use mathlib.Core.List.{List, [], _∷_}
 use mathlib.Core.Bool.{cond}
-use Prim.Native.Nat.{ℕ, zero, suc, _<_}
+use Prim.Native.Nat.{ℕ, suc, _<_}
 use native.Mathlib.Omega.{arith}
 use borrow.Author.Differences.{ints}
 use lib.Dec.{ltb}
@@ -13,12 +13,12 @@ use Rattle.records.specs.Cleared.{cleared-leg}
 use Rattle.records.specs.declared.leg.Leg.{Leg}
 use Rattle.network.specs.Nets.{Net}
 use Rattle.theory.specs.Groups.{whole}
-use Rattle.theory.specs.Arcs.{Arc, fees, ReducedCosts, Uncut}
+use Rattle.theory.specs.Arcs.{ReducedCosts, Uncut}
 use Rattle.theory.proofs.Adding
 use Rattle.theory.proofs.Duality
 use Rattle.theory.proofs.Walking
 use Rattle.plans.specs.Plans.{stations, leg-at, amount, Obeys, cents, difference, CheapestThenNearest, EndsBelow}
-use Rattle.plans.specs.Residuals.{forth, back, Step, forward, backward, step-bikes, CentsStep, BothStep, both-group, Certifies}
+use Rattle.plans.specs.Residuals.{forth, back, forward, backward, step-bikes, CentsStep, BothStep, both-group, Certifies}
 use Rattle.plans.specs.Prices.{CentsRoundTrip}
 use Rattle.plans.proofs.Arcing.{arc, arcs, arcs-of, one-more, one-less, curved, feasible, paid, placed, joined}
 
@@ -31,7 +31,7 @@ at-leg net standing plan π e c k h =
     let j = joined net e k h in
     record {
       more = λ i. Adding.regrouped both-group (c _ _ _ (forward k j refl refl i refl)) refl (ap (both-group .add (π (l .start))) (one-more (l .charge) s x));
-      less = λ y q. Adding.regrouped both-group (c _ _ _ (backward k j refl refl (omega arith) refl)) refl (ap (both-group .add (π (l .end))) (one-less (l .charge) s y ∙ ap (λ z. (negℤ (pos (l .charge)), cond (ltb s z) (negsuc 0) (pos 1))) (sym q)))
+      less = λ y q. Adding.regrouped both-group (c _ _ _ (backward k j refl refl (omega arith) refl)) refl (ap (both-group .add (π (l .end))) (one-less (l .charge) s y ∙ ap (λ z. (negℤ (pos (l .charge)), cond (ltb s z) (negsuc 0) (pos 1))) (sym q)));
     }
 
 uncut : (π : ℕ → ℤ × ℤ) (ls : List Leg) (s : ℕ → ℕ) (xs : List ℕ) → ((k : ℕ) → k < length ls → ReducedCosts both-group π (arc (getD ls k cleared-leg) (s k)) (getD xs k 0)) → Uncut both-group π (arcs ls s) xs
@@ -51,7 +51,7 @@ best net standing plan π e h c =
     record {
       obeys = h;
       cheapest = λ other k. omega (arith, ints, no-better net standing plan π e h c other k .0);
-      nearest = λ other k q. let r : pos (cents net other) ≤ℤ pos (cents net plan) = omega (arith, ints) in omega (arith, ints, no-better net standing plan π e h c other k .1 r)
+      nearest = λ other k q. let r : pos (cents net other) ≤ℤ pos (cents net plan) = omega (arith, ints) in omega (arith, ints, no-better net standing plan π e h c other k .1 r);
     }
 
 -- a step at its cents, with its bikes

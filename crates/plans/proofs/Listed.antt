@@ -66,11 +66,13 @@ module _ {A : Type 0} (net : Net) (plan : List ℕ) (cost : Direction → ℕ �
   pub is-step : (k : ℕ) → k ≤ length (net .legs) → (u v : ℕ) (c : A) → Among (edges k) u v c → Step net plan cost u v c
   is-step zero h u v c s = absurd s
   is-step (suc k) h u v c s =
-      elim (guarded-only (onward k) (forward-edge k) (guarded (homeward k) (backward-edge k) (edges k)) u v c s)
-      [ inl p ↦ let q = passed k (ltb (amount plan k) (in-force (leg-at net k))) (omega arith) (p .0) in forward k (q .0) (p .1 .0) (p .1 .1) (ltb-true _ _ (q .1)) (sym (p .1 .2))
-      | inr r ↦ elim (guarded-only (homeward k) (backward-edge k) (edges k) u v c r)
-        [ inl p ↦ let q = passed k (ltb 0 (amount plan k)) (omega arith) (p .0) in backward k (q .0) (p .1 .0) (p .1 .1) (ltb-true _ _ (q .1)) (sym (p .1 .2))
-        | inr i ↦ is-step k (omega arith) u v c i ] ]
+      elim (guarded-only (onward k) (forward-edge k) (guarded (homeward k) (backward-edge k) (edges k)) u v c s) [
+        | inl p ↦ let q = passed k (ltb (amount plan k) (in-force (leg-at net k))) (omega arith) (p .0) in forward k (q .0) (p .1 .0) (p .1 .1) (ltb-true _ _ (q .1)) (sym (p .1 .2))
+        | inr r ↦ elim (guarded-only (homeward k) (backward-edge k) (edges k) u v c r) [
+          | inl p ↦ let q = passed k (ltb 0 (amount plan k)) (omega arith) (p .0) in backward k (q .0) (p .1 .0) (p .1 .1) (ltb-true _ _ (q .1)) (sym (p .1 .2))
+          | inr i ↦ is-step k (omega arith) u v c i
+        ]
+      ]
 
   -- the list of the legs below k + 1 holds that of the legs below k
   later : (k u v : ℕ) (c : A) → Among (edges k) u v c → Among (edges (suc k)) u v c
@@ -80,16 +82,18 @@ module _ {A : Type 0} (net : Net) (plan : List ℕ) (cost : Direction → ℕ �
   forward-listed : (k i : ℕ) (u v : ℕ) (c : A) → i < k → onward i ≡ true → Matches (forward-edge i) u v c → Among (edges k) u v c
   forward-listed zero i u v c h t m = absurd (omega arith)
   forward-listed (suc k) i u v c h t m =
-      elim (ℕ-discrete i k)
-      [ yes e ↦ guarded-there (onward k) (forward-edge k) (guarded (homeward k) (backward-edge k) (edges k)) u v c (subst (λ j. onward j ≡ true) e t) (subst (λ j. Matches (forward-edge j) u v c) e m)
-      | no n ↦ later k u v c (forward-listed k i u v c (omega arith) t m) ]
+      elim (ℕ-discrete i k) [
+        | yes e ↦ guarded-there (onward k) (forward-edge k) (guarded (homeward k) (backward-edge k) (edges k)) u v c (subst (λ j. onward j ≡ true) e t) (subst (λ j. Matches (forward-edge j) u v c) e m)
+        | no n ↦ later k u v c (forward-listed k i u v c (omega arith) t m)
+      ]
 
   backward-listed : (k i : ℕ) (u v : ℕ) (c : A) → i < k → homeward i ≡ true → Matches (backward-edge i) u v c → Among (edges k) u v c
   backward-listed zero i u v c h t m = absurd (omega arith)
   backward-listed (suc k) i u v c h t m =
-      elim (ℕ-discrete i k)
-      [ yes e ↦ guarded-rest (onward k) (forward-edge k) (guarded (homeward k) (backward-edge k) (edges k)) u v c (guarded-there (homeward k) (backward-edge k) (edges k) u v c (subst (λ j. homeward j ≡ true) e t) (subst (λ j. Matches (backward-edge j) u v c) e m))
-      | no n ↦ later k u v c (backward-listed k i u v c (omega arith) t m) ]
+      elim (ℕ-discrete i k) [
+        | yes e ↦ guarded-rest (onward k) (forward-edge k) (guarded (homeward k) (backward-edge k) (edges k)) u v c (guarded-there (homeward k) (backward-edge k) (edges k) u v c (subst (λ j. homeward j ≡ true) e t) (subst (λ j. Matches (backward-edge j) u v c) e m))
+        | no n ↦ later k u v c (backward-listed k i u v c (omega arith) t m)
+      ]
 
   pub listed : (u v : ℕ) (c : A) → Step net plan cost u v c → Among (edges (length (net .legs))) u v c
   listed u v c (forward k j p q h e) = forward-listed (length (net .legs)) k u v c (j .there) (passes k _ j (lt-ltb _ _ h)) (p, q, sym e)

@@ -54,9 +54,10 @@ at-old false false x y z w p e = omega (arith, ints)
 owed-more : (n u : ℕ) (vs : List ℕ) (b : ℕ → ℤ) → among u vs ≡ false → u < n → owed n (λ v. eqb v u || among v vs) b ≡ b u +ℤ owed n (λ v. among v vs) b
 owed-more zero u vs b a h = absurd (omega arith)
 owed-more (suc n) u vs b a h =
-    elim (ℕ-discrete n u)
-    [ yes e ↦ at-new (eqb n u) (among n vs) (b n) _ _ (eq-eqb n u e) (ap (λ i. among i vs) e ∙ a) (owed-before n u vs b (omega arith)) ∙ ap (λ i. b i +ℤ owed (suc n) (λ v. among v vs) b) e
-    | no d ↦ at-old (eqb n u) (among n vs) (b n) _ _ (b u) (ne-eqb n u d) (owed-more n u vs b a (omega arith)) ]
+    elim (ℕ-discrete n u) [
+      | yes e ↦ at-new (eqb n u) (among n vs) (b n) _ _ (eq-eqb n u e) (ap (λ i. among i vs) e ∙ a) (owed-before n u vs b (omega arith)) ∙ ap (λ i. b i +ℤ owed (suc n) (λ v. among v vs) b) e
+      | no d ↦ at-old (eqb n u) (among n vs) (b n) _ _ (b u) (ne-eqb n u d) (owed-more n u vs b a (omega arith))
+    ]
 
 -- a list of different stations below n
 pub owed-listed : (n : ℕ) (vs : List ℕ) (b : ℕ → ℤ) → Distinct vs → All (λ v. v < n) vs → owed n (λ v. among v vs) b ≡ sum-over b vs
@@ -83,6 +84,7 @@ pub sum-over-some : (vs : List ℕ) (b : ℕ → ℤ) → ((v : ℕ) → among v
 sum-over-some [] b h w k p = absurd (let z : _≡_ {A = ℕ} 0 1 = cc in omega arith)
 sum-over-some (v ∷ vs) b h w k p =
     let rest : (u : ℕ) → among u vs ≡ true → pos 0 ≤ℤ b u = λ u i. h u (or-true (eqb u v) (among u vs) i) in
-    elim (ℕ-discrete w v)
-    [ yes e ↦ let q : pos 0 <ℤ b v = rw e at p in omega (arith, ints, sum-over-none vs b rest)
-    | no d ↦ let i : among w vs ≡ true = ap (λ t. t || among w vs) (sym (ne-eqb w v d)) ∙ k in omega (arith, ints, h v (in-front v vs), sum-over-some vs b rest w i p) ]
+    elim (ℕ-discrete w v) [
+      | yes e ↦ let q : pos 0 <ℤ b v = rw e at p in omega (arith, ints, sum-over-none vs b rest)
+      | no d ↦ let i : among w vs ≡ true = ap (λ t. t || among w vs) (sym (ne-eqb w v d)) ∙ k in omega (arith, ints, h v (in-front v vs), sum-over-some vs b rest w i p)
+    ]

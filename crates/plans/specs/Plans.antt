@@ -4,7 +4,7 @@
 --   leg-at         a leg by its number
 --   amount         the bikes that a plan gives a leg; an amount that is missing counts as 0
 --   balance-at     the balance of a station by its number
---   in-force       the capacity in force
+--   under-mark, in-force   the capacity in force
 --   bikes-out      the bikes that a plan sends out of a station
 --   bikes-in       the bikes that a plan brings into a station
 --   Fits           a plan within the capacities in force

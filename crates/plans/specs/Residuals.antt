@@ -1,5 +1,6 @@
 -- The residual network of a plan: which steps the legs give, and what they cost.
 --   Direction    forth, from a leg's start to its end, or back
+--   Joined       a leg that is there, between stations
 --   Step         a residual step
 --   step-cents   the cents of a step
 --   step-bikes   the bikes of difference of a step

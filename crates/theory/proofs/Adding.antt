@@ -106,9 +106,10 @@ module _ {A : Type 0} (G : OrderedGroup A) where
   unfolding sum-to
   sum-at-one zero u x π h = absurd (omega arith)
   sum-at-one (suc n) u x π h =
-      elim (decLt u n)
-      [ yes l ↦ ap (λ z. z ⊕ sum-to G n (at-one u x π)) (at-other u x π n (omega arith)) ∙ G .unit _ ∙ sum-at-one n u x π l
-      | no g ↦ let e : u ≡ n = omega arith in subst (λ m. sum-to G (suc m) (at-one u x π) ≡ times G x (π u)) e (sum-at-last u x π) ]
+      elim (decLt u n) [
+        | yes l ↦ ap (λ z. z ⊕ sum-to G n (at-one u x π)) (at-other u x π n (omega arith)) ∙ G .unit _ ∙ sum-at-one n u x π l
+        | no g ↦ let e : u ≡ n = omega arith in subst (λ m. sum-to G (suc m) (at-one u x π) ≡ times G x (π u)) e (sum-at-last u x π)
+      ]
 
   -- ---- the exchange
   pub exchange : {L : Type 0} (at : L → ℕ) (n : ℕ) (π : ℕ → A) (ls : List L) (xs : List ℕ) → All (λ l. at l < n) ls → sum-to G n (λ v. times G (gather at v ls xs) (π v)) ≡ along G (λ l. π (at l)) ls xs

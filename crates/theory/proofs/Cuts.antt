@@ -10,7 +10,7 @@ use lib.IntN.{ℤ, pos, _+ℤ_, _-ℤ_}
 use lib.Signed.{_≤ℤ_, _<ℤ_}
 use Rattle.std.specs.shelf.Lists.{All}
 use Rattle.theory.specs.Groups.{whole}
-use Rattle.theory.specs.Arcs.{Arc, gather, Fits, Feasible, times, sum-to, along, outward, owed, Full, AllFull}
+use Rattle.theory.specs.Arcs.{Arc, gather, Fits, Feasible, times, sum-to, along, outward, owed, AllFull}
 use Rattle.theory.proofs.Adding
 
 abbrev one : (ℕ → Bool) → ℕ → ℤ

@@ -1,12 +1,12 @@
 -- A round trip below zero passes no leg twice, so one bike can be sent around it.
-use mathlib.Core.Path.{_≡_, refl, sym, _∙_, ap, subst}
+use mathlib.Core.Path.{_≡_, refl, sym, _∙_, subst}
 use mathlib.Core.List.{List, [], _∷_}
 use mathlib.Core.Logic.{_⊎_, inl, inr}
-use Prim.Native.Nat.{ℕ, zero, suc, _+_, _≤_, _<_}
+use Prim.Native.Nat.{ℕ, zero, suc}
 use native.Mathlib.Omega.{arith}
 use native.Mathlib.Numerals.{add-one}
 use native.Mathlib.Decide.{ℕ-discrete}
-use lib.ListN.{length, getD, set}
+use lib.ListN.{getD}
 use Rattle.theory.specs.Groups.{OrderedGroup, cancel}
 use Rattle.theory.specs.Arcs.{Arc, Convex}
 use Rattle.theory.specs.Walks.{Absent, Distinct, Way, rest, go, RoundTrip}
@@ -66,8 +66,12 @@ module _ {A : Type 0} (G : OrderedGroup A) (d : Arc A) (ls : List (Arc A)) (xs :
   make (go {u = u} {v = z} {us = us} {t = t} {c = c} w s) h =
       let m = make w (h .1) in
       let l = extend (m .trail) (s .1) (m .clear (s .0) (target (u ∷ us) (s .1) (h .0))) in
-      record { legs = s .0 ∷ m .legs; after = l .after; trail = l .trail;
-        clear = λ k a. ((λ e. not-clear us (s .1) (subst (λ i. Clear i (z ∷ u ∷ us)) e a)), m .clear k (clear-tail k z (u ∷ us) a)) }
+      record {
+        legs = s .0 ∷ m .legs;
+        after = l .after;
+        trail = l .trail;
+        clear = λ k a. ((λ e. not-clear us (s .1) (subst (λ i. Clear i (z ∷ u ∷ us)) e a)), m .clear k (clear-tail k z (u ∷ us) a));
+      }
 
   stays : {o u : ℕ} {us : List ℕ} {t : A} → Way G (Residual G d ls xs) o u us t → Absent o us → (u ≡ o) × (t ≡ G .zero)
   stays rest a = (refl, refl)
@@ -100,17 +104,18 @@ module _ {A : Type 0} (G : OrderedGroup A) (d : Arc A) (ls : List (Arc A)) (xs :
   close c rest e h g = record { legs = []; after = xs; trail = none }
   close c (go rest s) e h g = let l = extend none (s .1) tt in record { legs = _; after = _; trail = l .trail }
   close c {o = o} {z = z} (go {u = u} {c = b} (go {u = u′} {us = us} {t = t} {c = a} w s) r) e h g =
-      elim (ℕ-discrete (r .0) (s .0))
-      [ yes i ↦
-        let p = to-and-fro (c (r .0)) (h .0 .0) (subst (λ k. hop k u′ u a) (sym i) (s .1)) (r .1) in
-        let y : u′ ≡ o = sym (p .0) ∙ e in
-        let n : t ≡ G .zero = stays w (rw y at (h .1 .0)) .1 in
-        absurd (g (rw (n, G .unit a) (p .1)))
-      | no n ↦
-        let m = make w (h .1) in
-        let l = extend (m .trail) (s .1) (m .clear (s .0) (target (u′ ∷ us) (s .1) (h .0))) in
-        let q = extend (l .trail) (r .1) (n, m .clear (r .0) (source (u′ ∷ us) (r .1) (h .0))) in
-        record { legs = _; after = _; trail = q .trail } ]
+      elim (ℕ-discrete (r .0) (s .0)) [
+        | yes i ↦
+            let p = to-and-fro (c (r .0)) (h .0 .0) (subst (λ k. hop k u′ u a) (sym i) (s .1)) (r .1) in
+            let y : u′ ≡ o = sym (p .0) ∙ e in
+            let n : t ≡ G .zero = stays w (rw y at (h .1 .0)) .1 in
+            absurd (g (rw (n, G .unit a) (p .1)))
+        | no n ↦
+            let m = make w (h .1) in
+            let l = extend (m .trail) (s .1) (m .clear (s .0) (target (u′ ∷ us) (s .1) (h .0))) in
+            let q = extend (l .trail) (r .1) (n, m .clear (r .0) (source (u′ ∷ us) (r .1) (h .0))) in
+            record { legs = _; after = _; trail = q .trail }
+      ]
 
   pub around : ((k : ℕ) → Convex G (arc k .fee)) → (trip : RoundTrip G (Residual G d ls xs)) → Around G d ls xs (trip .at) (trip .total)
   around c trip = let r = close c (trip .way) refl (trip .once) (trip .below) in record { legs = r .legs; after = r .after; trail = r .trail }

@@ -66,11 +66,13 @@ module _ {A : Type 0} (G : OrderedGroup A) where
 
   pub least : (f : ℕ → A) (p : A) (most x : ℕ) → Convex G f → Tight G f p most x → (y : ℕ) → y ≤ most → f x ⊕ times G y p ≼ f y ⊕ times G x p
   least f p most x c t y h =
-      elim (decLt x y)
-      [ yes l ↦ let e : y ≡ x + (y - x) = omega arith in rw e (climb f p c x (t .more (omega arith)) (y - x))
-      | no r ↦ elim (decLt y x)
-        [ yes l ↦ let e : x ≡ suc (y + (x - suc y)) = omega arith in rw e (fall f p c y (x - suc y) (t .less _ e))
-        | no q ↦ let e : x ≡ y = omega arith in rw e (G .le-refl _) ] ]
+      elim (decLt x y) [
+        | yes l ↦ let e : y ≡ x + (y - x) = omega arith in rw e (climb f p c x (t .more (omega arith)) (y - x))
+        | no r ↦ elim (decLt y x) [
+          | yes l ↦ let e : x ≡ suc (y + (x - suc y)) = omega arith in rw e (fall f p c y (x - suc y) (t .less _ e))
+          | no q ↦ let e : x ≡ y = omega arith in rw e (G .le-refl _)
+        ]
+      ]
 
   -- ---- the legs together: how a potential rises along a leg
   abbrev rise : (ℕ → A) → Arc A → A
@@ -89,7 +91,7 @@ module _ {A : Type 0} (G : OrderedGroup A) where
   tight π l x c =
       record {
         more = λ h. Adding.regrouped G (G .shift _ _ (l .fee x ⊕ G .neg (π (l .from))) (c .more h)) (simp ac) (sym (one-more _ _ _));
-        less = λ j e. Adding.regrouped G (G .shift _ _ (l .fee (suc j) ⊕ G .neg (π (l .from))) (c .less j e)) (sym (Adding.restored G _ _)) (sym (one-less _ _ _ _))
+        less = λ j e. Adding.regrouped G (G .shift _ _ (l .fee (suc j) ⊕ G .neg (π (l .from))) (c .less j e)) (sym (Adding.restored G _ _)) (sym (one-less _ _ _ _));
       }
 
   summed : (π : ℕ → A) (ls : List (Arc A)) (xs ys : List ℕ) → All (λ l. Convex G (l .fee)) ls → Fits ls xs → Fits ls ys → Uncut G π ls xs → fees G ls xs ⊕ along G (rise π) ls ys ≼ fees G ls ys ⊕ along G (rise π) ls xs
@@ -130,7 +132,7 @@ module _ {A : Type 0} (G : OrderedGroup A) where
       let starts = halves (λ l. l .from < n) (λ l. l .to < n) ls e .0 in
       let ends = halves (λ l. l .from < n) (λ l. l .to < n) ls e .1 in
       let same : along G (λ l. π (l .from)) ls xs ⊕ along G (λ l. π (l .to)) ls ys ≡ along G (λ l. π (l .from)) ls ys ⊕ along G (λ l. π (l .to)) ls xs =
-        rw (← (Adding.exchange G (λ l. l .from) n π ls xs starts), ← (Adding.exchange G (λ l. l .to) n π ls xs ends), ← (Adding.exchange G (λ l. l .from) n π ls ys starts), ← (Adding.exchange G (λ l. l .to) n π ls ys ends))
-        (same-ends n π _ _ _ _ (λ u l. omega (arith, ints, h .balanced u l, k .balanced u l))) in
+      rw (← (Adding.exchange G (λ l. l .from) n π ls xs starts), ← (Adding.exchange G (λ l. l .to) n π ls xs ends), ← (Adding.exchange G (λ l. l .from) n π ls ys starts), ← (Adding.exchange G (λ l. l .to) n π ls ys ends))
+      (same-ends n π _ _ _ _ (λ u l. omega (arith, ints, h .balanced u l, k .balanced u l))) in
       let r : along G (rise π) ls ys ≡ along G (rise π) ls xs = even _ _ _ _ _ _ (rises π ls xs) (rises π ls ys) same in
       cancel G _ _ (along G (rise π) ls xs) (Adding.regrouped G (summed π ls xs ys v (h .fits) (k .fits) c) (rw r (G .comm _ _)) (G .comm _ _))

@@ -34,9 +34,10 @@ below-absent n (v ∷ vs) a h = (omega (arith, a .0), below-absent n vs (a .1) (
 below-without : (n : ℕ) (vs : List ℕ) → Distinct vs → All (λ v. v < suc n) vs → All (λ v. v < n) (without n vs)
 below-without n [] d h = tt
 below-without n (v ∷ vs) d h =
-    elim (ℕ-discrete v n)
-    [ yes e ↦ rw (eq-eqb v n e) (below-absent n vs (rw e at (d .0)) (h .1))
-    | no x ↦ rw (ne-eqb v n x) (omega arith, below-without n vs (d .1) (h .1)) ]
+    elim (ℕ-discrete v n) [
+      | yes e ↦ rw (eq-eqb v n e) (below-absent n vs (rw e at (d .0)) (h .1))
+      | no x ↦ rw (ne-eqb v n x) (omega arith, below-without n vs (d .1) (h .1))
+    ]
 
 pub few : (n : ℕ) (vs : List ℕ) → Distinct vs → All (λ v. v < n) vs → length vs ≤ n
 few zero [] d h = omega arith

@@ -46,9 +46,10 @@ module _ {A : Type 0} (G : OrderedGroup A) (d : Arc A) (ls : List (Arc A)) (xs :
 
   fits-set : (ys : List ℕ) (k y : ℕ) → length ys ≡ length ls → y ≤ getD ls k d .room → ((i : ℕ) → i < length ls → getD ys i 0 ≤ getD ls i d .room) → (i : ℕ) → i < length ls → getD (set ys k y) i 0 ≤ getD ls i d .room
   fits-set ys k y e h f i l =
-      elim (ℕ-discrete i k)
-      [ yes q ↦ rw q (rw (getD-set-same ys k y 0 (omega arith)) h)
-      | no n ↦ rw (getD-set-other ys k i y 0 n) (f i l) ]
+      elim (ℕ-discrete i k) [
+        | yes q ↦ rw q (rw (getD-set-same ys k y 0 (omega arith)) h)
+        | no n ↦ rw (getD-set-other ys k i y 0 n) (f i l)
+      ]
 
   -- the leg k, which the steps before did not touch, takes the amount y
   paid-set : (ys : List ℕ) (c : A) (k y : ℕ) → length ys ≡ length ls → k < length ls → getD ys k 0 ≡ getD xs k 0 → fees G ls ys ≡ G .add (fees G ls xs) c → fees G ls (set ys k y) ≡ G .add (fees G ls xs) (G .add c (G .add (getD ls k d .fee y) (G .neg (getD ls k d .fee (getD xs k 0)))))
@@ -64,7 +65,7 @@ module _ {A : Type 0} (G : OrderedGroup A) (d : Arc A) (ls : List (Arc A)) (xs :
         others = others-set ks ys k (x + b) (q .others);
         fits = fits-set ys k (x + b) (q .as-long) r (q .fits);
         paid = paid-set ys c k (x + b) (q .as-long) h (q .others k a) (q .paid);
-        moved = λ w. omega (arith, q .moved w, ap (λ z. cond (eqb z w) b 0) s, rw (q .others k a) at (gather-set (λ l. l .from) w d ls ys k (x + b) (q .as-long) h), rw (q .others k a) at (gather-set (λ l. l .to) w d ls ys k (x + b) (q .as-long) h), cond-sum (eqb (getD ls k d .from) w) x b, cond-sum (eqb (getD ls k d .to) w) x b)
+        moved = λ w. omega (arith, q .moved w, ap (λ z. cond (eqb z w) b 0) s, rw (q .others k a) at (gather-set (λ l. l .from) w d ls ys k (x + b) (q .as-long) h), rw (q .others k a) at (gather-set (λ l. l .to) w d ls ys k (x + b) (q .as-long) h), cond-sum (eqb (getD ls k d .from) w) x b, cond-sum (eqb (getD ls k d .to) w) x b);
       }
   push e f {b = b} (less {v = v} {ks = ks} {c = c} {ys = ys} k j t h a s r) =
       let q = push e f t in
@@ -73,5 +74,5 @@ module _ {A : Type 0} (G : OrderedGroup A) (d : Arc A) (ls : List (Arc A)) (xs :
         others = others-set ks ys k j (q .others);
         fits = fits-set ys k j (q .as-long) (omega (arith, f k h)) (q .fits);
         paid = rw (← r) (paid-set ys c k j (q .as-long) h (q .others k a) (q .paid));
-        moved = λ w. omega (arith, q .moved w, ap (λ z. cond (eqb z w) b 0) s, rw (q .others k a, r) at (gather-set (λ l. l .from) w d ls ys k j (q .as-long) h), rw (q .others k a, r) at (gather-set (λ l. l .to) w d ls ys k j (q .as-long) h), cond-sum (eqb (getD ls k d .from) w) j b, cond-sum (eqb (getD ls k d .to) w) j b)
+        moved = λ w. omega (arith, q .moved w, ap (λ z. cond (eqb z w) b 0) s, rw (q .others k a, r) at (gather-set (λ l. l .from) w d ls ys k j (q .as-long) h), rw (q .others k a, r) at (gather-set (λ l. l .to) w d ls ys k j (q .as-long) h), cond-sum (eqb (getD ls k d .from) w) j b, cond-sum (eqb (getD ls k d .to) w) j b);
       }

@@ -1,7 +1,7 @@
 -- Rounds of relaxing the steps of a list (Bellman–Ford): least totals exist where no round trip below zero is reached.
-use mathlib.Core.Path.{_≡_, refl, sym, _∙_, ap, subst}
+use mathlib.Core.Path.{_≡_, refl, subst}
 use mathlib.Core.List.{List, [], _∷_}
-use mathlib.Core.Bool.{Bool, true, false, cond}
+use mathlib.Core.Bool.{Bool, true, cond}
 use mathlib.Core.Logic.{_⊎_, inl, inr}
 use Prim.Native.Nat.{ℕ, zero, suc, _<_}
 use lib.Dec.{eqb}
@@ -97,7 +97,7 @@ module _ {A : Type 0} (G : OrderedGroup A) where
         record {
           first = first-round;
           falls = λ k v t h. relax-keeps all (rounds k) v t h;
-          relaxed = λ k u v t c h s. relax-steps all (rounds k) u v c t s h
+          relaxed = λ k u v t c h s. relax-steps all (rounds k) u v c t s h;
         }
 
     -- ---- every label is the total of a walk
@@ -127,12 +127,14 @@ module _ {A : Type 0} (G : OrderedGroup A) where
 
       least-from : (o : Option A) → rounds m v ≡ o → Holds (Attained v) o → (us : List ℕ) (t : A) → Walk G (Passes f) (Among all) v us t → (s : A) × Least G (Passes f) (Among all) v s
       least-from None e k us t w = absurd (reached us t w (λ i. subst (λ o. AtMost G o t) e i))
-      least-from (Some a) e k us t w =
-          (a, record {
-            before = k .0;
-            attained = k .1;
-            least = λ us′ s w′. elim (G .le-decide a s) [ inl i ↦ i | inr i ↦ absurd (reached us′ s w′ (λ q. i (subst (λ o. AtMost G o s) e q))) ]
-          })
+      least-from (Some a) e k us t w = (
+        a,
+        record {
+          before = k .0;
+          attained = k .1;
+          least = λ us′ s w′. elim (G .le-decide a s) [ inl i ↦ i | inr i ↦ absurd (reached us′ s w′ (λ q. i (subst (λ o. AtMost G o s) e q))) ];
+        },
+      )
 
       pub exists : (us : List ℕ) (t : A) → Walk G (Passes f) (Among all) v us t → (s : A) × Least G (Passes f) (Among all) v s × Price G (Passes f) (Among all) v s
       exists us t w =

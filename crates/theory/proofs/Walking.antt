@@ -1,5 +1,5 @@
 -- Walks: removal of round trips, labels, and rounds of relaxing (Bellman–Ford).
-use mathlib.Core.Path.{_≡_, refl, sym, _∙_}
+use mathlib.Core.Path.{_≡_, refl, sym}
 use mathlib.Core.List.{List, [], _∷_}
 use mathlib.Core.Logic.{_⊎_, inl, inr}
 use Prim.Native.Nat.{ℕ, zero, suc, _≤_, _<_}
@@ -70,13 +70,33 @@ module _ {A : Type 0} (G : OrderedGroup A) (F : ℕ → Type 0) (S : ℕ → ℕ
   apart : (v : ℕ) {u : ℕ} {us : List ℕ} {t : A} → Walk G F S u us t → Apart v u us t ⊎ Absent v us
   apart v (start f) = inr tt
   apart v (step {u = u} {v = w} {us = us} {t = t} {c = c} k s) =
-      elim (ℕ-discrete v u)
-      [ yes e ↦ inl (record { before = us; since = u ∷ []; first = t; second = G .add (G .zero) c; walk = rw e k; way = rw e (go rest s); sum = rw (G .unit c);
-          fewer = λ z a. (a .0, tt); once = λ h. (rw e h, (tt, tt)) })
-      | no n ↦ elim (apart v k)
-        [ inl r ↦ inl (record { before = r .before; since = u ∷ r .since; first = r .first; second = G .add (r .second) c; walk = r .walk; way = go (r .way) s;
-            sum = rw (r .sum) (G .assoc _ _ _); fewer = λ z a. (a .0, r .fewer z (a .1)); once = λ h. (r .once (h .1) .0, (r .fewer u (h .0), r .once (h .1) .1)) })
-        | inr a ↦ inr (n, a) ] ]
+      elim (ℕ-discrete v u) [
+        | yes e ↦ inl (record {
+          before = us;
+          since = u ∷ [];
+          first = t;
+          second = G .add (G .zero) c;
+          walk = rw e k;
+          way = rw e (go rest s);
+          sum = rw (G .unit c);
+          fewer = λ z a. (a .0, tt);
+          once = λ h. (rw e h, (tt, tt));
+        })
+        | no n ↦ elim (apart v k) [
+          | inl r ↦ inl (record {
+            before = r .before;
+            since = u ∷ r .since;
+            first = r .first;
+            second = G .add (r .second) c;
+            walk = r .walk;
+            way = go (r .way) s;
+            sum = rw (r .sum) (G .assoc _ _ _);
+            fewer = λ z a. (a .0, r .fewer z (a .1));
+            once = λ h. (r .once (h .1) .0, (r .fewer u (h .0), r .once (h .1) .1));
+          })
+          | inr a ↦ inr (n, a)
+        ]
+      ]
 
   abbrev Short : ℕ → A → Type 0
   Short v t = (s : A) × SimpleWalk G F S v s × G .le s t
@@ -84,24 +104,31 @@ module _ {A : Type 0} (G : OrderedGroup A) (F : ℕ → Type 0) (S : ℕ → ℕ
   pub shorten : {v : ℕ} {us : List ℕ} {t : A} → Walk G F S v us t → Reached G F S ⊎ Short v t
   shorten (start f) = inr (G .zero, record { before = []; walk = start f; once = (tt, tt) }, G .le-refl _)
   shorten (step {u = u} {v = v} {us = us} {t = t} {c = c} k s) =
-      elim (shorten k)
-      [ inl g ↦ inl g
-      | inr r ↦
-        let more : Walk G F S v (u ∷ r .1 .before) (G .add (r .0) c) = step (r .1 .walk) s in
-        let below : G .le (G .add (r .0) c) (G .add t c) = Adding.shift-right G _ _ c (r .2) in
-        elim (apart v more)
-        [ inr a ↦ inr (G .add (r .0) c, record { before = u ∷ r .1 .before; walk = more; once = (a, r .1 .once) }, below)
-        | inl q ↦ elim (G .le-decide (G .zero) (q .second))
-          [ inl h ↦ inr (q .first, record { before = q .before; walk = q .walk; once = q .once (r .1 .once) .0 },
-              G .le-trans _ _ _ (rw (q .sum) (rw (Adding.unit-right G (q .first)) at (G .shift _ _ (q .first) h))) below)
-          | inr g ↦ inl (record { trip = record { at = v; through = q .since; total = q .second; way = q .way; once = q .once (r .1 .once) .1; below = g }; before = q .before; total = q .first; walk = q .walk }) ] ] ]
+      elim (shorten k) [
+        | inl g ↦ inl g
+        | inr r ↦
+            let more : Walk G F S v (u ∷ r .1 .before) (G .add (r .0) c) = step (r .1 .walk) s in
+            let below : G .le (G .add (r .0) c) (G .add t c) = Adding.shift-right G _ _ c (r .2) in
+            elim (apart v more) [
+              | inr a ↦ inr (G .add (r .0) c, record { before = u ∷ r .1 .before; walk = more; once = (a, r .1 .once) }, below)
+              | inl q ↦ elim (G .le-decide (G .zero) (q .second)) [
+                | inl h ↦ inr (
+                  q .first,
+                  record { before = q .before; walk = q .walk; once = q .once (r .1 .once) .0 },
+                  G .le-trans _ _ _ (rw (q .sum) (rw (Adding.unit-right G (q .first)) at (G .shift _ _ (q .first) h))) below,
+                )
+                | inr g ↦ inl (record { trip = record { at = v; through = q .since; total = q .second; way = q .way; once = q .once (r .1 .once) .1; below = g }; before = q .before; total = q .first; walk = q .walk })
+              ]
+            ]
+      ]
 
   -- ---- prices, steps and least totals
   pub reduced : (Reached G F S → ⊥) → (u v : ℕ) (c s t : A) → S u v c → Price G F S u s → Price G F S v t → G .le t (G .add s c)
   reduced none u v c s t k p q =
-      elim (shorten (step (p .attained .walk) k))
-      [ inl r ↦ absurd (none r)
-      | inr r ↦ G .le-trans _ _ _ (q .least (r .0) (r .1)) (r .2) ]
+      elim (shorten (step (p .attained .walk) k)) [
+        | inl r ↦ absurd (none r)
+        | inr r ↦ G .le-trans _ _ _ (q .least (r .0) (r .1)) (r .2)
+      ]
 
   pub price-unique : (v : ℕ) (s t : A) → Price G F S v s → Price G F S v t → s ≡ t
   price-unique v s t p q = G .le-antisym _ _ (p .least t (q .attained)) (q .least s (p .attained))
@@ -111,7 +138,7 @@ module _ {A : Type 0} (G : OrderedGroup A) (F : ℕ → Type 0) (S : ℕ → ℕ
       record {
         before = p .attained .before;
         attained = p .attained .walk;
-        least = λ us s w. elim (shorten w) [ inl r ↦ absurd (none r) | inr r ↦ G .le-trans _ _ _ (p .least (r .0) (r .1)) (r .2) ]
+        least = λ us s w. elim (shorten w) [ inl r ↦ absurd (none r) | inr r ↦ G .le-trans _ _ _ (p .least (r .0) (r .1)) (r .2) ];
       }
 
   simple-least : (v : ℕ) (t : A) → Least G F S v t → Short v t → SimpleWalk G F S v t
@@ -119,9 +146,10 @@ module _ {A : Type 0} (G : OrderedGroup A) (F : ℕ → Type 0) (S : ℕ → ℕ
 
   pub least-price : (Reached G F S → ⊥) → (v : ℕ) (t : A) → Least G F S v t → Price G F S v t
   least-price none v t l =
-      elim (shorten (l .attained))
-      [ inl r ↦ absurd (none r)
-      | inr r ↦ record { attained = simple-least v t l r; least = λ s k. l .least (k .before) s (k .walk) } ]
+      elim (shorten (l .attained)) [
+        | inl r ↦ absurd (none r)
+        | inr r ↦ record { attained = simple-least v t l r; least = λ s k. l .least (k .before) s (k .walk) }
+      ]
 
   -- ---- labels
   module _ (R : ℕ → Type 0) (d : ℕ → A) (L : Label G F S R d) where
@@ -158,6 +186,7 @@ module _ {A : Type 0} (G : OrderedGroup A) (F : ℕ → Type 0) (S : ℕ → ℕ
 
     pub shows-trip : (m : ℕ) → ((u v : ℕ) (c : A) → S u v c → u < suc m) → ((v : ℕ) (s t : A) → G .le s t → U m v s → U m v t) → (v : ℕ) → v < suc m → (us : List ℕ) (t : A) → Walk G F S v us t → (U m v t → ⊥) → Reached G F S
     shows-trip m b rises v h us t w g =
-        elim (shorten w)
-        [ inl r ↦ r
-        | inr r ↦ absurd (g (rises v (r .0) t (r .2) (within m (r .1 .walk) (omega (arith, few (suc m) (v ∷ r .1 .before) (r .1 .once) (h, visited (suc m) b (r .1 .walk))))))) ]
+        elim (shorten w) [
+          | inl r ↦ r
+          | inr r ↦ absurd (g (rises v (r .0) t (r .2) (within m (r .1 .walk) (omega (arith, few (suc m) (v ∷ r .1 .before) (r .1 .once) (h, visited (suc m) b (r .1 .walk)))))))
+        ]

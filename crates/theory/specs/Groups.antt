@@ -9,7 +9,7 @@ use mathlib.Core.Path.{_≡_}
 use native.Mathlib.Omega.{arith}
 use borrow.Author.Differences.{ints}
 use lib.IntN.{ℤ, pos, _+ℤ_, negℤ}
-use lib.Signed.{_≤ℤ_, _<ℤ_}
+use lib.Signed.{_≤ℤ_}
 use Rattle.std.proofs.shelf.Signed.{by-ltZ}
 
 -- the sum is commutative and associative, zero leaves a member as it is, a member and its negative sum to zero;
@@ -55,7 +55,7 @@ whole =
       le-antisym = λ a b h k. omega (arith, ints);
       le-total = whole-total;
       le-decide = whole-decide;
-      shift = λ a b c h. omega (arith, ints)
+      shift = λ a b c h. omega (arith, ints);
     }
 
 -- what was added is taken off again
@@ -78,20 +78,24 @@ module _ {A B : Type 0} (G : OrderedGroup A) (H : OrderedGroup B) where
   -- any two pairs are in order one way round
   pub pair-total : (p q : A × B) → lex (G .le) (H .le) p q ⊎ lex (G .le) (H .le) q p
   pair-total p q =
-      elim (G .le-decide (p .0) (q .0))
-      [ inl h ↦ elim (G .le-decide (q .0) (p .0))
-        [ inl k ↦ elim (H .le-total (p .1) (q .1)) [ inl i ↦ inl (h, λ _. i) | inr i ↦ inr (k, λ _. i) ]
-        | inr k ↦ inl (h, λ l. absurd (k l)) ]
-      | inr h ↦ elim (G .le-total (p .0) (q .0)) [ inl k ↦ absurd (h k) | inr k ↦ inr (k, λ l. absurd (h l)) ] ]
+      elim (G .le-decide (p .0) (q .0)) [
+        | inl h ↦ elim (G .le-decide (q .0) (p .0)) [
+          | inl k ↦ elim (H .le-total (p .1) (q .1)) [ inl i ↦ inl (h, λ _. i) | inr i ↦ inr (k, λ _. i) ]
+          | inr k ↦ inl (h, λ l. absurd (k l))
+        ]
+        | inr h ↦ elim (G .le-total (p .0) (q .0)) [ inl k ↦ absurd (h k) | inr k ↦ inr (k, λ l. absurd (h l)) ]
+      ]
 
   -- whether two pairs are in order
   pub pair-decide : (p q : A × B) → lex (G .le) (H .le) p q ⊎ (lex (G .le) (H .le) p q → ⊥)
   pair-decide p q =
-      elim (G .le-decide (p .0) (q .0))
-      [ inl h ↦ elim (G .le-decide (q .0) (p .0))
-        [ inl k ↦ elim (H .le-decide (p .1) (q .1)) [ inl i ↦ inl (h, λ _. i) | inr i ↦ inr (λ l. i (l .1 k)) ]
-        | inr k ↦ inl (h, λ l. absurd (k l)) ]
-      | inr h ↦ inr (λ l. h (l .0)) ]
+      elim (G .le-decide (p .0) (q .0)) [
+        | inl h ↦ elim (G .le-decide (q .0) (p .0)) [
+          | inl k ↦ elim (H .le-decide (p .1) (q .1)) [ inl i ↦ inl (h, λ _. i) | inr i ↦ inr (λ l. i (l .1 k)) ]
+          | inr k ↦ inl (h, λ l. absurd (k l))
+        ]
+        | inr h ↦ inr (λ l. h (l .0))
+      ]
 
 -- sums and negatives part by part
 abbrev pub paired : {A B : Type 0} → OrderedGroup A → OrderedGroup B → OrderedGroup (A × B)
@@ -110,5 +114,5 @@ paired G H =
       le-antisym = λ a b h k. two (G .le-antisym _ _ (h .0) (k .0)) (H .le-antisym _ _ (h .1 (k .0)) (k .1 (h .0)));
       le-total = pair-total G H;
       le-decide = pair-decide G H;
-      shift = λ a b c h. (G .shift _ _ _ (h .0), λ l. H .shift _ _ _ (h .1 (cancel G _ _ _ l)))
+      shift = λ a b c h. (G .shift _ _ _ (h .0), λ l. H .shift _ _ _ (h .1 (cancel G _ _ _ l)));
     }

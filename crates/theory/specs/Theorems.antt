@@ -17,7 +17,7 @@
 --   PushAlongTrail     bikes sent along a trail
 --   RoundTripIsTrail   a round trip below zero passes different legs
 use mathlib.Core.Bool.{Bool}
-use mathlib.Core.List.{List, _∷_}
+use mathlib.Core.List.{List}
 use mathlib.Core.Logic.{_⊎_}
 use mathlib.Core.Path.{_≡_}
 use Prim.Native.Nat.{ℕ, suc, _≤_, _<_}

@@ -1,31 +1,33 @@
 -- Bikes sent along residual steps of different legs.
---   Trail    a plan xs, and what it becomes when b bikes go along steps of different legs
---   here     1 at one station, 0 at the others
---   Pushed   what holds of the plan after it
---   Hop      a residual step over a leg, for one bike
---   Residual a residual step over some leg
+--   here       a number of bikes at one station, 0 at the others
+--   Trail      a plan xs, and what it becomes when b bikes go along residual steps of different legs
+--   Pushed     what holds of the plan after it
+--   Hop        a residual step over a leg, for one bike
+--   Residual   a residual step over some leg
+--   Around     a trail for one bike from a station back to it
 -- The default arc d stands for a leg that is not there.
 use mathlib.Core.Bool.{cond}
 use mathlib.Core.List.{List, [], _∷_}
 use mathlib.Core.Path.{_≡_}
-use Prim.Native.Nat.{ℕ, suc, _+_, _*_, _≤_, _<_}
+use Prim.Native.Nat.{ℕ, suc, _+_, _≤_, _<_}
 use lib.Dec.{eqb}
 use lib.ListN.{length, getD, set}
 use Rattle.theory.specs.Groups.{OrderedGroup}
 use Rattle.theory.specs.Arcs.{Arc, gather, fees}
 use Rattle.theory.specs.Walks.{Absent}
 
+-- b at the station u, 0 at any other
+abbrev pub here : ℕ → ℕ → ℕ → ℕ
+here b u w = cond (eqb u w) b 0
+
 module _ {A : Type 0} (G : OrderedGroup A) (d : Arc A) (ls : List (Arc A)) (xs : List ℕ) where
   -- from o to v over the legs ks (the latest first), at the cost c; the plan is ys then
   pub data Trail (b o : ℕ) : ℕ → List ℕ → A → List ℕ → Type 0 where
     none : Trail b o o [] (G .zero) xs
     more : {v : ℕ} {ks : List ℕ} {c : A} {ys : List ℕ} (k : ℕ) → Trail b o v ks c ys → k < length ls → Absent k ks → getD ls k d .from ≡ v → getD xs k 0 + b ≤ getD ls k d .room →
-      Trail b o (getD ls k d .to) (k ∷ ks) (G .add c (G .add (getD ls k d .fee (getD xs k 0 + b)) (G .neg (getD ls k d .fee (getD xs k 0))))) (set ys k (getD xs k 0 + b))
+        Trail b o (getD ls k d .to) (k ∷ ks) (G .add c (G .add (getD ls k d .fee (getD xs k 0 + b)) (G .neg (getD ls k d .fee (getD xs k 0))))) (set ys k (getD xs k 0 + b))
     less : {v : ℕ} {ks : List ℕ} {c : A} {ys : List ℕ} (k j : ℕ) → Trail b o v ks c ys → k < length ls → Absent k ks → getD ls k d .to ≡ v → getD xs k 0 ≡ j + b →
-      Trail b o (getD ls k d .from) (k ∷ ks) (G .add c (G .add (getD ls k d .fee j) (G .neg (getD ls k d .fee (j + b))))) (set ys k j)
-
-  abbrev pub here : ℕ → ℕ → ℕ → ℕ
-  here b u w = cond (eqb u w) b 0
+        Trail b o (getD ls k d .from) (k ∷ ks) (G .add c (G .add (getD ls k d .fee j) (G .neg (getD ls k d .fee (j + b))))) (set ys k j)
 
   -- only legs of the trail have changed, all are within their room, the cost has risen by c, and only the two ends send out another number: o sends b bikes more, v sends b less
   pub record Pushed (b o v : ℕ) (ks : List ℕ) (c : A) (ys : List ℕ) : Type 0 where
