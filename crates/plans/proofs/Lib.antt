@@ -1,0 +1,7 @@
+pub mod Sums
+pub mod Arcing
+pub mod Best
+pub mod Cutting
+pub mod Listed
+pub mod Pricing
+pub mod Around

@@ -1,0 +1,5 @@
+pub mod Groups
+pub mod Arcs
+pub mod Walks
+pub mod Trails
+pub mod Theorems
