@@ -11,7 +11,7 @@ use Rattle.records.specs.Refusals.{number, place}
 use Rattle.records.specs.declared.refusal.Refusal.{Refusal}
 use Rattle.records.specs.declared.station.Station.{Station}
 use Rattle.text_rules.specs.Reading.{reading}
-use Rattle.text_rules.specs.Stated.{Network, States, Fitting, Refused, network-of}
+use Rattle.text_rules.specs.Stated.{StatedNetwork, States, Fitting, Refused, network-of}
 use Rattle.text_rules.specs.declared.progress.Room.{Room}
 use Rattle.text_rules.proofs.Legal.{legal}
 use Rattle.text_rules.proofs.Running.{Taken, taken-reading, refused-reading}
@@ -27,7 +27,7 @@ stations-back [] = refl
 stations-back (s ∷ ss) = ap (λ rest. s ∷ rest) (stations-back ss)
 
 -- a text that states a network is printed as its canonical text
-stated-printed : (text : List ℕ) (room : Room) (net : Network) → States text net → Fitting room net
+stated-printed : (text : List ℕ) (room : Room) (net : StatedNetwork) → States text net → Fitting room net
   → printed (reading room text) ≡ canonical (net .stations) (net .legs)
 stated-printed text room net s fitting =
     let fits : Fitting room (network-of (s .lines)) = subst (Fitting room) (s .same) fitting in
@@ -36,7 +36,7 @@ stated-printed text room net s fitting =
             short = s .short; rows = s .rows; parted = s .parted; complete = s .complete;
             good = record { spelled = s .spelled; lawful = s .lawful; roomy = roomy-fitting room (s .lines) (s .lawful) (s .complete) fits }
         } in
-    ap printed (taken-reading text room (s .lines) taken) ∙ ap (λ (n : Network). canonical (n .stations) (n .legs)) (sym (s .same))
+    ap printed (taken-reading text room (s .lines) taken) ∙ ap (λ (n : StatedNetwork). canonical (n .stations) (n .legs)) (sym (s .same))
 
 refused-printed : (text : List ℕ) (room : Room) (k at : ℕ) → Refused text room k at → printed (reading room text) ≡ refusal-line k at
 refused-printed text room k at r =

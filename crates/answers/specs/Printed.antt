@@ -16,7 +16,7 @@ use Rattle.records.specs.Refusals.{number, place}
 use Rattle.records.specs.declared.refusal.Refusal.{Refusal}
 use Rattle.records.specs.declared.station.Station.{Station}
 use Rattle.lines.specs.declared.line.Line.{Line}
-use Rattle.text_rules.specs.Stated.{Network, States, Refused, legs-of, stations-of}
+use Rattle.text_rules.specs.Stated.{StatedNetwork, States, Refused, legs-of, stations-of}
 use Rattle.text_rules.specs.declared.progress.Room.{Room}
 use Rattle.writer.specs.Canonical.{canonical}
 
@@ -42,5 +42,5 @@ printed (Err e) = refusal-line (number e) (place e)
 
 -- by what the text states, and by how it is refused
 pub record Prints (text bytes : List ℕ) : Type 0 where
-  pub of-network : (net : Network) → States text net → bytes ≡ canonical (net .stations) (net .legs)
+  pub of-network : (net : StatedNetwork) → States text net → bytes ≡ canonical (net .stations) (net .legs)
   pub of-refusal : (k at : ℕ) → Refused text whole-room k at → bytes ≡ refusal-line k at

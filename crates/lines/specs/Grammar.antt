@@ -3,7 +3,7 @@
 --   worth     the number that digits write, base ten
 --   Numeral   one to nine digits, and the number that they write; leading zeros count as digits
 --   Signed    a numeral, or a minus sign and a numeral
---   Written   a line and the bytes that spell it: one space parts two fields, and nothing follows the last
+--   Written   a line and the bytes that spell it, with a single space between fields
 --   Spelled   what scanning bytes came to, judged by the forms
 use mathlib.Core.Path.{_≡_}
 use mathlib.Core.List.{List, [], _∷_, _++_}

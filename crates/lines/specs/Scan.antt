@@ -3,8 +3,10 @@
 --   scanned    the number that up to k digits at the front add to one begun, and what follows them
 --   numeral    a number of one to nine digits at the front, and what follows it
 --   field      a space and then a numeral
---   signed     a numeral, with or without a minus sign before it
+--   signed     a numeral, with or without a minus sign before it, by `either`
+--   ended      a line behind which nothing follows
 --   flow       a space and then a signed numeral
+--   past       what follows a byte, where the bytes begin with it
 --   after      what follows a word, where the bytes begin with it
 --   comment, problem, node, arc   what may follow a line's first letter
 --   scan       the line that bytes spell, if any

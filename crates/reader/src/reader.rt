@@ -38,7 +38,7 @@ impl<'a> Reader<'a> {
     }
 
     // The numbers of nodes and arcs, where the lines taken so far are a whole text.
-    pub fn finish(&self) -> Result<(usize, usize), Refusal>
+    pub(crate) fn finish(&self) -> Result<(usize, usize), Refusal>
         ensures { λ r. ⌜ r ≡ finished (now (self .entry) .progress) (now (self .entry) .lines) ⌝ }
     {
         self.progress.finish(self.lines)

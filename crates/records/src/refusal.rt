@@ -6,7 +6,7 @@ ghost use Rattle.records.specs.Refusals.{number, place};
 pub enum Refusal {
     // the text is longer than a reader takes
     TextTooLong,
-    // a line has none of the forms
+    // no form fits a line
     LineOutOfForm { line: usize },
     // a line stands where its kind may not
     LineOutOfOrder { line: usize },

@@ -1,6 +1,6 @@
 // A station: where bikes are taken and brought back.
 
-// The balance: bikes to spare if positive, bikes wanted if negative.
+// The balance says how many bikes the station can spare, or below zero how many it lacks.
 #[derive(Clone, Copy, PartialEq, Eq, Debug)]
 pub struct Station {
     pub balance: i32,

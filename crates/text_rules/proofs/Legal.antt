@@ -1,8 +1,4 @@
 -- What every network that some text states keeps.
---   LegLawful   a leg between two of n stations, within the ranges, and open
---   Bounded     a balance within its range
---   Legal       stations and legs that a text can state
---   legal       what a text states is legal
 use mathlib.Core.Path.{_≡_, refl, sym, subst}
 use mathlib.Core.List.{List, [], _∷_}
 use Prim.Native.Nat.{ℕ, _+_, _≤_, _<_}
@@ -23,26 +19,9 @@ use Rattle.records.specs.declared.station.Station.{Station}
 use Rattle.lines.specs.declared.line.Line.{Line}
 use Rattle.lines.specs.declared.line.Line.the-variants.{Comment, Problem, Node, Arc}
 use Rattle.text_rules.specs.Rules.{nodes-of, NODES, ARCS, Announced}
-use Rattle.text_rules.specs.Stated.{Network, States, Lawful, Complete, leg-of, legs-of, balance-of, station-of, stations-of}
+use Rattle.text_rules.specs.Legal.{LegLawful, Bounded, Legal}
+use Rattle.text_rules.specs.Stated.{StatedNetwork, States, Lawful, Complete, leg-of, legs-of, balance-of, station-of, stations-of}
 use Rattle.text_rules.proofs.Sizing.{length-legs, length-stations}
-
-pub record LegLawful (n : ℕ) (leg : Leg) : Type 0 where
-  pub starts : leg .start < n
-  pub ends : leg .end < n
-  pub apart : leg .start ≡ leg .end → ⊥
-  pub carries : leg .capacity ≤ 500
-  pub costs : leg .charge ≤ 10000
-  pub unshut : leg .mark ≡ Open
-
-abbrev pub Bounded : ℤ → Type 0
-Bounded z = (negsuc 499 ≤ℤ z) × (z ≤ℤ pos 500)
-
-pub record Legal (stations : List Station) (legs : List Leg) : Type 0 where
-  pub some : 1 ≤ length stations
-  pub few : length stations ≤ 240
-  pub few-legs : length legs ≤ 3000
-  pub bounded : All (λ s. Bounded (s .balance)) stations
-  pub lawful-legs : All (LegLawful (length stations)) legs
 
 -- no leg is lawful among no stations
 never-lawful : (n : ℕ) (leg : Leg) → LegLawful 0 leg → LegLawful n leg
@@ -101,4 +80,4 @@ lines-legal lines w c =
 pub legal : (text : List ℕ) (stations : List Station) (legs : List Leg)
   → States text (record { stations = stations; legs = legs }) → Legal stations legs
 legal text stations legs s =
-    subst (λ (net : Network). Legal (net .stations) (net .legs)) (sym (s .same)) (lines-legal (s .lines) (s .lawful) (s .complete))
+    subst (λ (net : StatedNetwork). Legal (net .stations) (net .legs)) (sym (s .same)) (lines-legal (s .lines) (s .lawful) (s .complete))

@@ -16,7 +16,7 @@ use Rattle.lines.specs.declared.line.Line.{Line}
 use Rattle.lines.specs.declared.line.Line.the-variants.{Comment, Problem, Node, Arc}
 use Rattle.text_rules.specs.Reading.{padded, answer-of, legs-after, stations-after, Accepted}
 use Rattle.text_rules.specs.Rules.{NODES, ARCS, arc-lines}
-use Rattle.text_rules.specs.Stated.{Network, Lawful, Roomy, Complete, Fitting, leg-of, legs-of, station-of, stations-of, network-of}
+use Rattle.text_rules.specs.Stated.{StatedNetwork, Lawful, Roomy, Complete, Fitting, leg-of, legs-of, station-of, stations-of, network-of}
 use Rattle.text_rules.specs.declared.progress.Room.{Room}
 
 pub length-legs : (lines : List Line) → length (legs-of lines) ≡ arc-lines lines
@@ -76,7 +76,7 @@ module _ (room : Room) (lines : List Line) where
           stations-are = ap (λ n. padded cleared-station n (stations-of lines)) (sym (length-padded _ _ _ (f .0)))
       }
 
-  pub accepted-network : (net : Network)
+  pub accepted-network : (net : StatedNetwork)
     → Accepted (answer-of (Ok lines)) (legs-after (Ok lines) (room .legs)) (stations-after (Ok lines) (room .stations)) net → net ≡ network-of lines
   accepted-network net a =
       let e : _≡_ {A = ℕ × ℕ} (NODES lines, length (legs-of lines)) (length (net .stations), length (net .legs)) = cc (a .sizes) in

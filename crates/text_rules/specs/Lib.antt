@@ -1,4 +1,5 @@
 pub mod Judging
+pub mod Legal
 pub mod Reading
 pub mod Rows
 pub mod Rules

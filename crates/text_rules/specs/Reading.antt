@@ -4,10 +4,12 @@
 --   reading       the lines of a text, newest first, or its refusal
 --   padded        a table that holds a list and is cleared beyond
 --   answer-of, legs-after, stations-after   what a call answers and leaves in the tables
+--   Accepted, RefusedAs   an answer that accepts a network, and one that refuses with a number and a place
 --   Exactly       when a call accepts a text, and when and how it refuses one
 use mathlib.Core.Path.{_≡_}
 use mathlib.Core.List.{List, [], _∷_, _++_}
 use mathlib.Core.Bool.{cond}
+use mathlib.Core.Logic.{_⊎_}
 use Prim.Native.Nat.{ℕ, _+_, _-_}
 use lib.Dec.{leb}
 use lib.ListN.{length, replicate}
@@ -26,7 +28,7 @@ use Rattle.lines.specs.declared.line.Line.{Line}
 use Rattle.text_rules.specs.Judging.{judged, advanced, finished}
 use Rattle.text_rules.specs.Rows.{rows}
 use Rattle.text_rules.specs.Rules.{NODES}
-use Rattle.text_rules.specs.Stated.{Network, States, Fitting, Refused, legs-of, stations-of}
+use Rattle.text_rules.specs.Stated.{StatedNetwork, States, Fitting, Refused, legs-of, stations-of}
 use Rattle.text_rules.specs.declared.progress.Progress.{Progress}
 use Rattle.text_rules.specs.declared.progress.Room.{Room}
 
@@ -72,7 +74,7 @@ abbrev pub _iff_ : Type 0 → Type 0 → Type 0
 _iff_ P Q = (P → Q) × (Q → P)
 
 -- the answer and the tables after the call are those of a network
-pub record Accepted (r : Result (ℕ × ℕ) Refusal) (legs : List Leg) (stations : List Station) (net : Network) : Type 0 where
+pub record Accepted (r : Result (ℕ × ℕ) Refusal) (legs : List Leg) (stations : List Station) (net : StatedNetwork) : Type 0 where
   pub sizes : r ≡ Ok (length (net .stations), length (net .legs))
   pub legs-are : legs ≡ padded cleared-leg (length legs) (net .legs)
   pub stations-are : stations ≡ padded cleared-station (length stations) (net .stations)
@@ -82,7 +84,8 @@ abbrev pub RefusedAs : Result (ℕ × ℕ) Refusal → ℕ → ℕ → Type 0
 RefusedAs r k at = (e : Refusal) × (r ≡ Err e) × (number e ≡ k) × (place e ≡ at)
 
 -- a text is accepted as a network exactly when it states it and the tables are long enough,
--- and refused with a number and a place exactly when the rules say so
+-- and refused with a number and a place exactly when the rules say so; every text is one or the other
 pub record Exactly (text : List ℕ) (room : Room) (r : Result (ℕ × ℕ) Refusal) (legs : List Leg) (stations : List Station) : Type 0 where
-  pub accepted-when-stated : (net : Network) → _iff_ (States text net × Fitting room net) (Accepted r legs stations net)
+  pub accepted-when-stated : (net : StatedNetwork) → _iff_ (States text net × Fitting room net) (Accepted r legs stations net)
   pub refused-when-broken : (k at : ℕ) → _iff_ (Refused text room k at) (RefusedAs r k at)
+  pub one-or-the-other : ((net : StatedNetwork) × States text net × Fitting room net) ⊎ ((k : ℕ) × (at : ℕ) × Refused text room k at)

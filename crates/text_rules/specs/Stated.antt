@@ -1,11 +1,15 @@
 -- What a text states, and when and where it is refused.
---   Network            stations and legs
+--   StatedNetwork            stations and legs
 --   legs-of            the legs that arc lines state, in the order of their lines
 --   balance-of         what the last node line for a station says, 0 without one
 --   network-of         the network that the lines of a text make up
 --   Spells             lines, newest first, and the rows that spell them, in the order of the text
 --   Lawful             every line keeps order, ranges and count, by the lines before it
+--   Roomy              the tables suffice for every line
+--   Complete           a problem line came, and as many arc lines as it announced
 --   States             a text and the network that it states
+--   Fitting            tables that are as long as a network
+--   TooLong, FaultAt, EndsEarly   the three ways in which a text is refused
 --   Refused            a text and the number and place of its refusal
 use mathlib.Core.Path.{_≡_}
 use mathlib.Core.List.{List, [], _∷_, _++_, map}
@@ -27,7 +31,7 @@ use Rattle.text_rules.specs.Rows.{Parted}
 use Rattle.text_rules.specs.Rules.{NODES, ARCS, Announced, arc-lines, InOrder, InRange, InCount, HasRoom, Lowest}
 use Rattle.text_rules.specs.declared.progress.Room.{Room}
 
-pub record Network : Type 0 where
+pub record StatedNetwork : Type 0 where
   pub stations : List Station
   pub legs : List Leg
 
@@ -56,7 +60,7 @@ station-of lines k = record { balance = balance-of lines k }
 abbrev pub stations-of : List Line → List Station
 stations-of lines = map (station-of lines) (counting 0 (NODES lines))
 
-abbrev pub network-of : List Line → Network
+abbrev pub network-of : List Line → StatedNetwork
 network-of lines = record { stations = stations-of lines; legs = legs-of lines }
 
 -- the newest line is spelled by the last row
@@ -78,7 +82,7 @@ Roomy room (l ∷ before) = HasRoom room l × Roomy room before
 abbrev pub Complete : List Line → Type 0
 Complete lines = Announced lines × (arc-lines lines ≡ ARCS lines)
 
-pub record States (text : List ℕ) (net : Network) : Type 0 where
+pub record States (text : List ℕ) (net : StatedNetwork) : Type 0 where
   pub short : length text ≤ 65536
   pub rows : List (List ℕ)
   pub parted : Parted rows text
@@ -89,7 +93,7 @@ pub record States (text : List ℕ) (net : Network) : Type 0 where
   pub same : net ≡ network-of lines
 
 -- the handed tables are as long as the network
-abbrev pub Fitting : Room → Network → Type 0
+abbrev pub Fitting : Room → StatedNetwork → Type 0
 Fitting room net = (length (net .stations) ≤ room .stations) × (length (net .legs) ≤ room .legs)
 
 -- the lines before a row keep every rule, and the row is the first that breaks one: k is the lowest

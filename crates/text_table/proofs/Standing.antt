@@ -14,7 +14,7 @@ use Rattle.records.specs.declared.refusal.Refusal.{Refusal}
 use Rattle.lines.specs.declared.line.Line.{Line}
 use Rattle.text_rules.specs.Reading.{reading, answer-of, legs-after, stations-after}
 use Rattle.text_rules.specs.Rules.{NODES}
-use Rattle.text_rules.specs.Stated.{Network, States, Fitting, network-of, legs-of, stations-of}
+use Rattle.text_rules.specs.Stated.{StatedNetwork, States, Fitting, network-of, legs-of, stations-of}
 use Rattle.text_rules.specs.declared.progress.Room.{Room}
 use Rattle.text_rules.proofs.Legal.{legal}
 use Rattle.text_rules.proofs.Running.{Read, Taken, reads}
@@ -25,7 +25,7 @@ use Rattle.text_table.specs.Stands.{net-of, Stands, Falls}
 
 -- the lines that were read state the network that the records hold
 pub record Held (text : List ℕ) (room : Room) (nodes arcs : ℕ) (legs : List Leg) (stations : List Station) : Type 0 where
-  pub net : Network
+  pub net : StatedNetwork
   pub stated : States text net
   pub fitting : Fitting room net
   pub nodes-are : nodes ≡ length (net .stations)

@@ -20,7 +20,7 @@ use Rattle.text_rules.specs.Rows.{NoEnd}
 use Rattle.text_rules.specs.Rules.{problem-in, nodes-of, arcs-of, NODES, ARCS, Announced, arc-lines, InOrder, InRange, InCount}
 use Rattle.text_rules.specs.Stated.{Spells, Lawful}
 use Rattle.writer.specs.Canonical.{node-line, arc-line, with-node, node-lines}
-use Rattle.text_rules.proofs.Legal.{LegLawful, Bounded}
+use Rattle.text_rules.specs.Legal.{LegLawful, Bounded}
 use Rattle.writer.proofs.Spelling.{Spelt, node-spelt, arc-of, arc-spelt}
 
 -- a node line onto the lines before it, where the balance is not 0

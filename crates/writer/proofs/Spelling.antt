@@ -26,7 +26,7 @@ use Rattle.lines.specs.declared.line.Line.{Line}
 use Rattle.lines.specs.declared.line.Line.the-variants.{Problem, Node, Arc}
 use Rattle.text_rules.specs.Rows.{NoEnd, Parted}
 use Rattle.writer.specs.Canonical.{problem-line, node-line, arc-line, ended}
-use Rattle.text_rules.proofs.Legal.{LegLawful, Bounded}
+use Rattle.text_rules.specs.Legal.{LegLawful, Bounded}
 
 own : Numerals Digits worth
 own = numerals-by-fold Digits (search needs) worthFrom (search needs)

@@ -19,7 +19,8 @@ use Rattle.lines.specs.declared.line.Line.the-variants.{Problem}
 use Rattle.text_rules.specs.Rules.{nodes-of, arcs-of, arc-lines}
 use Rattle.text_rules.specs.Stated.{States, leg-of, legs-of, balance-of, stations-of}
 use Rattle.writer.specs.Canonical.{problem-line, canonical-lines, canonical, ReadBack}
-use Rattle.text_rules.proofs.Legal.{LegLawful, Legal, legal}
+use Rattle.text_rules.specs.Legal.{LegLawful, Legal}
+use Rattle.text_rules.proofs.Legal.{legal}
 use Rattle.writer.proofs.Spelling.{arc-of, problem-spelt, parted}
 use Rattle.writer.proofs.Naming.{node-onto, onto-nodes, onto-arcs, Reached, arc-lines-node, nodes-reached, arcs-reached}
 
@@ -149,4 +150,4 @@ module _ (stations : List Station) (legs : List Leg) (l : Legal stations legs) w
       }
 
 pub reads-back : (stations : List Station) (legs : List Leg) → ReadBack stations legs
-reads-back stations legs text s short = stated stations legs (legal text stations legs s) short
+reads-back stations legs = record { states-it = stated stations legs; stated-is-legal = λ text s. legal text stations legs s }

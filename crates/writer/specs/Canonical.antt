@@ -6,7 +6,7 @@
 --   canonical-lines  all lines, in the order of the text
 --   ended            a line with the byte that ends it
 --   canonical        the bytes of the whole text
---   ReadBack         the canonical text of a network that some text states, states it too
+--   ReadBack         the canonical text of a legal network states it
 use mathlib.Core.List.{List, [], _∷_, _++_, map}
 use Prim.Native.Nat.{ℕ, _+_, _≤_, zero, suc}
 use lib.Chars.{codes}
@@ -16,6 +16,7 @@ use Rattle.std.specs.Joined.{joined}
 use Rattle.std.specs.Written.{decimal, signed}
 use Rattle.records.specs.declared.leg.Leg.{Leg}
 use Rattle.records.specs.declared.station.Station.{Station}
+use Rattle.text_rules.specs.Legal.{Legal}
 use Rattle.text_rules.specs.Stated.{States}
 
 -- `p min NODES ARCS`
@@ -53,8 +54,7 @@ ended line = line ++ (10 ∷ [])
 abbrev pub canonical : List Station → List Leg → List ℕ
 canonical stations legs = joined ended (canonical-lines stations legs)
 
--- as long as it is not too long for a text
-abbrev pub ReadBack : List Station → List Leg → Type 0
-ReadBack stations legs =
-    (text : List ℕ) → States text (record { stations = stations; legs = legs }) → length (canonical stations legs) ≤ 65536
-    → States (canonical stations legs) (record { stations = stations; legs = legs })
+-- the canonical text of a legal network states it, unless it is too long; and what a text states is legal
+pub record ReadBack (stations : List Station) (legs : List Leg) : Type 0 where
+  pub states-it : Legal stations legs → length (canonical stations legs) ≤ 65536 → States (canonical stations legs) (record { stations = stations; legs = legs })
+  pub stated-is-legal : (text : List ℕ) → States text (record { stations = stations; legs = legs }) → Legal stations legs
