@@ -1,0 +1,31 @@
+-- One leg takes more bikes or fewer, as a planner sends them along a residual step.
+--   more        the plan with b bikes more on a leg
+--   fewer       the plan with b bikes less on a leg
+--   SendsForth  b bikes may go along the forward step of a leg, at what the step costs now
+--   SendsBack   the same along the backward step
+use mathlib.Core.List.{List}
+use Prim.Native.Nat.{ℕ, _+_, _-_, _≤_, _<_}
+use lib.ListN.{length, set}
+use Rattle.network.specs.Nets.{Net}
+use Rattle.plans.specs.Plans.{leg-at, amount, in-force}
+use Rattle.plans.specs.Residuals.{Joined}
+
+abbrev pub more : List ℕ → ℕ → ℕ → List ℕ
+more plan k b = set plan k (amount plan k + b)
+
+abbrev pub fewer : List ℕ → ℕ → ℕ → List ℕ
+fewer plan k b = set plan k (amount plan k - b)
+
+-- within the capacity in force, and not past the standing amount where the step moves towards it
+pub record SendsForth (net : Net) (standing plan : List ℕ) (k b : ℕ) : Type 0 where
+  pub joined : Joined net k
+  pub planned : k < length plan
+  pub within : amount plan k + b ≤ in-force (leg-at net k)
+  pub short : amount plan k < amount standing k → amount plan k + b ≤ amount standing k
+
+-- no more than the leg carries, and not past the standing amount where the step moves towards it
+pub record SendsBack (net : Net) (standing plan : List ℕ) (k b : ℕ) : Type 0 where
+  pub joined : Joined net k
+  pub planned : k < length plan
+  pub carried : b ≤ amount plan k
+  pub beyond : amount standing k < amount plan k → amount standing k ≤ amount plan k - b
