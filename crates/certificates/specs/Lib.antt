@@ -1,2 +1,4 @@
 pub mod Pushes
+pub mod Starts
+pub mod Totals
 pub mod Theorems
