@@ -4,7 +4,7 @@ ghost use Prim.Native.Nat.{ℕ, _≤_};
 ghost use Rattle.records.specs.declared.leg.Leg.{Leg};
 ghost use Rattle.plans.specs.Residuals.{Direction, forth, back};
 ghost use Rattle.plans.specs.Plans.{amount};
-ghost use Rattle.search.specs.Fees.{fee-both, fee-cents};
+ghost use Rattle.search.specs.Fees.{BothAreStepBoth, CentsAreStepCents, fee-both, fee-cents};
 ghost use denote.Ref.{now};
 use costs::Bikes;
 use costs::Cents;
@@ -52,7 +52,7 @@ pub struct InBoth<'a> {
 }
 
 // The standing amount of a leg.
-pub fn amount_at(amounts: &[u16], number: usize) -> u16
+pub(crate) fn amount_at(amounts: &[u16], number: usize) -> u16
     ensures { λ r. ⌜ r ≡ amount (now (amounts .entry)) number ⌝ }
 {
     if number < amounts.len() { amounts[number] } else { 0 }
@@ -76,4 +76,18 @@ pub impl<'a> Fees<Pair<Cents, Bikes>> for InBoth<'a> as InBothFees {
             second: Bikes(bikes),
         }
     }
+}
+
+// Fees in cents are the cents of residual steps.
+pub fn in_cents_are_step_cents() -> u8
+    ensures { λ _. ⌜ CentsAreStepCents ⌝ }
+{
+    0
+}
+
+// Fees in both are the cents and the bikes of difference of residual steps.
+pub fn in_both_are_step_both() -> u8
+    ensures { λ _. ⌜ BothAreStepBoth ⌝ }
+{
+    0
 }

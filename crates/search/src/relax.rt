@@ -21,7 +21,7 @@ use records::Leg;
 use records::Mark;
 
 // The label of a station.
-pub fn label_of<C: Copy>(labels: &[Label<C>], station: usize) -> Label<C>
+pub(crate) fn label_of<C: Copy>(labels: &[Label<C>], station: usize) -> Label<C>
     requires { ⌜ station < length (now labels) ⌝ }
     ensures { λ r. ⌜ r ≡ label-at (now (labels .entry)) station ⌝ }
 {
@@ -29,7 +29,7 @@ pub fn label_of<C: Copy>(labels: &[Label<C>], station: usize) -> Label<C>
 }
 
 // Writes the label of a station.
-pub fn put_label<C: Copy>(labels: &mut [Label<C>], station: usize, label: Label<C>)
+pub(crate) fn put_label<C: Copy>(labels: &mut [Label<C>], station: usize, label: Label<C>)
     requires { ⌜ station < length (now labels) ⌝ }
     ensures { λ _. ⌜ now (labels .exit) ≡ set (now (labels .entry)) station label ⌝ }
 {
@@ -142,7 +142,7 @@ fn relax_leg<N: Network, C: Cost, F: Fees<C>>(net: &N, plan: &[u16], fees: &F, n
 }
 
 // Relaxes all steps.
-pub fn relax_legs<N: Network, C: Cost, F: Fees<C>>(net: &N, plan: &[u16], fees: &F, labels: &mut [Label<C>])
+pub(crate) fn relax_legs<N: Network, C: Cost, F: Fees<C>>(net: &N, plan: &[u16], fees: &F, labels: &mut [Label<C>])
     requires { ⌜ count-of (N·Network .meaning (now net)) ≤ length (now labels) ⌝ }
     ensures { λ _. ⌜ Sweeps (C·Cost .group) (C·Cost .worth) (C·Cost .size) (λ d k l x. C·Cost .worth (F·Fees .cost (now (fees .entry)) d k l x)) (N·Network .meaning (now (net .entry))) (now (plan .entry)) 0 (length (N·Network .meaning (now (net .entry)) .legs) + length (N·Network .meaning (now (net .entry)) .legs)) (now (labels .entry)) (now (labels .exit)) ⌝ }
 {

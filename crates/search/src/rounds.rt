@@ -37,7 +37,7 @@ fn first_label<C: Cost>(is_start: bool, zero: C) -> Label<C>
 }
 
 // Labels every start with zero, and every other station as unreached.
-pub fn begin<C: Cost, S: Starts>(starts: &S, stations: usize, labels: &mut [Label<C>])
+pub(crate) fn begin<C: Cost, S: Starts>(starts: &S, stations: usize, labels: &mut [Label<C>])
     requires { ⌜ stations ≤ length (now labels) ⌝ }
     ensures { λ _. ⌜ Begins (C·Cost .group) (C·Cost .worth) (C·Cost .size) stations (S·Starts .starts (now (starts .entry))) (now (labels .entry)) (now (labels .exit)) ⌝ }
 {
@@ -99,7 +99,7 @@ fn round<N: Network, C: Cost, F: Fees<C>>(net: &N, plan: &[u16], fees: &F, label
 }
 
 // Rounds until no label changes: after as many as there are stations, a round trip is below zero.
-pub fn rounds<N: Network, C: Cost, F: Fees<C>>(net: &N, plan: &[u16], fees: &F, labels: &mut [Label<C>]) -> Outcome
+pub(crate) fn rounds<N: Network, C: Cost, F: Fees<C>>(net: &N, plan: &[u16], fees: &F, labels: &mut [Label<C>]) -> Outcome
     requires { ⌜ count-of (N·Network .meaning (now net)) ≤ length (now labels) ⌝ }
     ensures { λ r. ⌜ ((f : ℕ → Bool) → Ends (C·Cost .group) (C·Cost .worth) (C·Cost .size) (N·Network .meaning (now (net .entry))) (now (plan .entry)) (λ d k l x. C·Cost .worth (F·Fees .cost (now (fees .entry)) d k l x)) f r (now (labels .entry)) (now (labels .exit))) ⌝ }
 {
