@@ -24,6 +24,8 @@ pub enum Refusal {
     NotARoadLeg { leg: usize },
     // the leg to close is shut, or the leg to reopen is open
     MarkUnchanged { leg: usize },
+    // a slice that was handed in has no room for every station
+    SliceTooShort,
 }
 
 impl Refusal {
@@ -42,6 +44,7 @@ impl Refusal {
             Refusal::BalanceOutOfRange { .. } => 8,
             Refusal::NotARoadLeg { .. } => 9,
             Refusal::MarkUnchanged { .. } => 10,
+            Refusal::SliceTooShort => 11,
         }
     }
 
@@ -60,6 +63,7 @@ impl Refusal {
             Refusal::BalanceOutOfRange { station } => station,
             Refusal::NotARoadLeg { leg } => leg,
             Refusal::MarkUnchanged { leg } => leg,
+            Refusal::SliceTooShort => 0,
         }
     }
 }
