@@ -51,7 +51,7 @@ RoomsSuffice =
     × ((b : ℕ) → b ≤ room-forth net standing plan k → SendsForth net standing plan k b)
     × ((b : ℕ) → b ≤ room-back standing plan k → SendsBack net standing plan k b)
 
--- no bike sent, one way before the other, and the other before the one
+-- no push at all; the earlier part of the way first; the later part first
 abbrev pub PushesJoin : Type 0
 PushesJoin =
     (net : Net) (plan : List ℕ) (b u v w : ℕ)
@@ -74,7 +74,7 @@ LabelsExtend =
     → ((u v : ℕ) (c : ℤ × ℤ) → BothStep net standing plan u v c → r u ≡ true → (r v ≡ true) × both-group .le (d v) (both-group .add (d u) c))
     → (π′ : ℕ → ℤ × ℤ) × Certifies net standing plan π′ × ((v : ℕ) → r v ≡ true → π′ v ≡ d v)
 
--- there is one
+-- the list is such a plan; then what holds of every such plan
 abbrev pub FirstIsCertified : Type 0
 FirstIsCertified = (net : Net) (standing : List ℕ) → First net standing (first-plan net standing) × ((plan : List ℕ) → First net standing plan → Fits net plan × Certifies net standing plan level)
 
