@@ -54,13 +54,13 @@ module _ (net : Net) (standing plan : List ℕ) (π : ℕ → ℤ × ℤ) (k y :
   after f b u v z (forward i j p q h e) =
       elim (ℕ-discrete i k) [
         | yes d ↦ at-ends π (leg-at net k .start) (leg-at net k .end) u v (up (leg-at net k .charge) (amount standing k) y) z (ap (λ m. leg-at net m .start) (sym d) ∙ p) (ap (λ m. leg-at net m .end) (sym d) ∙ q)
-          (e ∙ ap (step-both net standing (set plan k y) forth) d ∙ ap (up (leg-at net k .charge) (amount standing k)) (getD-set-same plan k y 0 here)) f
+            (e ∙ ap (step-both net standing (set plan k y) forth) d ∙ ap (up (leg-at net k .charge) (amount standing k)) (getD-set-same plan k y 0 here)) f
         | no n ↦ c u v z (forward i j p q (rw (getD-set-other plan k i y 0 n) at h) (rw (getD-set-other plan k i y 0 n) at e))
       ]
   after f b u v z (backward i j p q h e) =
       elim (ℕ-discrete i k) [
         | yes d ↦ at-ends π (leg-at net k .end) (leg-at net k .start) u v (down (leg-at net k .charge) (amount standing k) y) z (ap (λ m. leg-at net m .end) (sym d) ∙ p) (ap (λ m. leg-at net m .start) (sym d) ∙ q)
-          (e ∙ ap (step-both net standing (set plan k y) back) d ∙ ap (down (leg-at net k .charge) (amount standing k)) (getD-set-same plan k y 0 here)) b
+            (e ∙ ap (step-both net standing (set plan k y) back) d ∙ ap (down (leg-at net k .charge) (amount standing k)) (getD-set-same plan k y 0 here)) b
         | no n ↦ c u v z (backward i j p q (rw (getD-set-other plan k i y 0 n) at h) (rw (getD-set-other plan k i y 0 n) at e))
       ]
 
@@ -74,8 +74,8 @@ forth-kept net standing plan π k b c s t =
     let l = leg-at net k in
     elim (cases-lt 0 b) [
       | inl h ↦ after net standing plan π k (amount plan k + b) c (s .planned)
-        (up-after-up (l .charge) (amount standing k) (amount plan k) (amount plan k + b) (π (l .start)) (π (l .end)) (omega arith) (t h))
-        (down-after-up (l .charge) (amount standing k) (amount plan k) (amount plan k + b) (π (l .start)) (π (l .end)) (s .short) (t h))
+          (up-after-up (l .charge) (amount standing k) (amount plan k) (amount plan k + b) (π (l .start)) (π (l .end)) (omega arith) (t h))
+          (down-after-up (l .charge) (amount standing k) (amount plan k) (amount plan k + b) (π (l .start)) (π (l .end)) (s .short) (t h))
       | inr h ↦ idle net standing plan π k (amount plan k + b) c (omega arith)
     ]
 
@@ -85,8 +85,8 @@ back-kept net standing plan π k b c s t =
     let l = leg-at net k in
     elim (cases-lt 0 b) [
       | inl h ↦ after net standing plan π k (amount plan k - b) c (s .planned)
-        (up-after-down (l .charge) (amount standing k) (amount plan k) (amount plan k - b) (π (l .start)) (π (l .end)) (s .beyond) (t h))
-        (down-after-down (l .charge) (amount standing k) (amount plan k) (amount plan k - b) (π (l .start)) (π (l .end)) (omega arith) (t h))
+          (up-after-down (l .charge) (amount standing k) (amount plan k) (amount plan k - b) (π (l .start)) (π (l .end)) (s .beyond) (t h))
+          (down-after-down (l .charge) (amount standing k) (amount plan k) (amount plan k - b) (π (l .start)) (π (l .end)) (omega arith) (t h))
       | inr h ↦ idle net standing plan π k (amount plan k - b) c (omega arith)
     ]
 
@@ -115,7 +115,9 @@ rooms net standing plan k f j =
     let x = amount plan k in
     let s = amount standing k in
     let m = in-force (leg-at net k) in
-    let here : k < length plan = omega (arith, f .one-each, j .there) in
-    (room-up x s m, room-down x s,
+    let here : k < length plan = omega (arith, f .one-each, j .there) in (
+      room-up x s m,
+      room-down x s,
       λ b h. record { joined = j; planned = here; within = within-up x s m b (f .within k (j .there)) h; short = λ l. short-up x s m b h l },
-      λ b h. record { joined = j; planned = here; carried = omega arith; beyond = λ l. beyond-down x s b h l })
+      λ b h. record { joined = j; planned = here; carried = omega arith; beyond = λ l. beyond-down x s b h l },
+    )

@@ -80,15 +80,15 @@ pub forth-sent : (net : Net) (plan : List ℕ) (k b : ℕ) → Fits net plan →
 forth-sent net plan k b f l h =
     by-ends net plan (more plan k b) b (leg-at net k .start) (leg-at net k .end) (fits-set net plan k (amount plan k + b) f h)
     (λ w. let o = at-end-more (eqb (leg-at net k .start) w) (amount plan k) b (bikes-out net plan w) (bikes-out net (more plan k b) w) (out-set net plan k (amount plan k + b) f l w) in
-      let i = at-end-more (eqb (leg-at net k .end) w) (amount plan k) b (bikes-in net plan w) (bikes-in net (more plan k b) w) (in-set net plan k (amount plan k + b) f l w) in
-      omega (arith, ints))
+    let i = at-end-more (eqb (leg-at net k .end) w) (amount plan k) b (bikes-in net plan w) (bikes-in net (more plan k b) w) (in-set net plan k (amount plan k + b) f l w) in
+    omega (arith, ints))
 
 pub back-sent : (net : Net) (plan : List ℕ) (k b : ℕ) → Fits net plan → k < length (net .legs) → b ≤ amount plan k → Sent net plan (fewer plan k b) b (leg-at net k .end) (leg-at net k .start)
 back-sent net plan k b f l h =
     by-ends net plan (fewer plan k b) b (leg-at net k .end) (leg-at net k .start) (fits-set net plan k (amount plan k - b) f (omega (arith, f .within k l)))
     (λ w. let o = at-end-fewer (eqb (leg-at net k .start) w) (amount plan k) b (bikes-out net plan w) (bikes-out net (fewer plan k b) w) h (out-set net plan k (amount plan k - b) f l w) in
-      let i = at-end-fewer (eqb (leg-at net k .end) w) (amount plan k) b (bikes-in net plan w) (bikes-in net (fewer plan k b) w) h (in-set net plan k (amount plan k - b) f l w) in
-      omega (arith, ints))
+    let i = at-end-fewer (eqb (leg-at net k .end) w) (amount plan k) b (bikes-in net plan w) (bikes-in net (fewer plan k b) w) h (in-set net plan k (amount plan k - b) f l w) in
+    omega (arith, ints))
 
 -- ---- one push after another
 pub unsent : (net : Net) (plan : List ℕ) (b u : ℕ) → Fits net plan → Sent net plan plan b u u
@@ -114,11 +114,13 @@ over-none (negsuc a) h = refl
 sum-falls : (n : ℕ) (f g : ℕ → ℕ) (u b : ℕ) → g u + b ≡ f u → ((w : ℕ) → (u ≡ w → ⊥) → g w ≡ f w) → (u < n → sum-below n g + b ≡ sum-below n f) × (n ≤ u → sum-below n g ≡ sum-below n f)
 sum-falls zero f g u b e h = (λ l. absurd (omega arith), λ l. refl)
 sum-falls (suc n) f g u b e h =
-    let r = sum-falls n f g u b e h in
-    (λ l. elim (ℕ-discrete u n) [
-      | yes q ↦ omega (arith, r .1 (omega arith), ap f q, ap g q)
-      | no d ↦ omega (arith, r .0 (omega arith), h n d)
-    ], λ l. omega (arith, r .1 (omega arith), h n (λ q. omega arith)))
+    let r = sum-falls n f g u b e h in (
+      λ l. elim (ℕ-discrete u n) [
+        | yes q ↦ omega (arith, r .1 (omega arith), ap f q, ap g q)
+        | no d ↦ omega (arith, r .0 (omega arith), h n d)
+      ],
+      λ l. omega (arith, r .1 (omega arith), h n (λ q. omega arith)),
+    )
 
 pub lowers-over : (net : Net) (plan after : List ℕ) (b u v : ℕ) → Sent net plan after b u v → u < stations net → (u ≡ v → ⊥) → pos b ≤ℤ left-over net plan u → (left-over net plan v +ℤ pos b) ≤ℤ pos 0
     → all-over net after + b ≡ all-over net plan

@@ -26,11 +26,13 @@ above-all : (n : ℕ) (f : ℕ → ℤ) → (m : ℕ) × ((v : ℕ) → v < n �
 above-all zero f = (0, λ v h. absurd (omega arith))
 above-all (suc n) f =
     let r = above-all n f in
-    let s = above (f n) in
-    (r .0 + s .0, λ v h. elim (ℕ-discrete v n) [
-      | yes e ↦ omega (arith, ints, s .1, ap f e)
-      | no d ↦ omega (arith, ints, r .1 v (omega arith))
-    ])
+    let s = above (f n) in (
+      r .0 + s .0,
+      λ v h. elim (ℕ-discrete v n) [
+        | yes e ↦ omega (arith, ints, s .1, ap f e)
+        | no d ↦ omega (arith, ints, r .1 v (omega arith))
+      ],
+    )
 
 -- ---- the labels where reached, else the potential raised by m cents
 abbrev pub raised : (ℕ → Bool) → (ℕ → ℤ × ℤ) → (ℕ → ℤ × ℤ) → ℕ → ℕ → ℤ × ℤ

@@ -32,9 +32,9 @@ use Rattle.certificates.specs.Totals.{total-below, all-over}
 abbrev pub PushKeepsCertificate : Type 0
 PushKeepsCertificate =
     ((net : Net) (standing plan : List ℕ) (π : ℕ → ℤ × ℤ) (k b : ℕ) → Certifies net standing plan π → SendsForth net standing plan k b
-      → (0 < b → π (leg-at net k .end) ≡ both-group .add (π (leg-at net k .start)) (step-both net standing plan forth k)) → Certifies net standing (more plan k b) π)
+    → (0 < b → π (leg-at net k .end) ≡ both-group .add (π (leg-at net k .start)) (step-both net standing plan forth k)) → Certifies net standing (more plan k b) π)
     × ((net : Net) (standing plan : List ℕ) (π : ℕ → ℤ × ℤ) (k b : ℕ) → Certifies net standing plan π → SendsBack net standing plan k b
-      → (0 < b → π (leg-at net k .start) ≡ both-group .add (π (leg-at net k .end)) (step-both net standing plan back k)) → Certifies net standing (fewer plan k b) π)
+    → (0 < b → π (leg-at net k .start) ≡ both-group .add (π (leg-at net k .end)) (step-both net standing plan back k)) → Certifies net standing (fewer plan k b) π)
 
 -- forth, and back; a leg that leads from a station to the same one changes nothing
 abbrev pub PushMovesEnds : Type 0
