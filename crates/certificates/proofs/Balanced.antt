@@ -2,13 +2,17 @@
 use mathlib.Core.Path.{_≡_, refl, sym, _∙_, ap}
 use mathlib.Core.List.{List, [], _∷_}
 use mathlib.Core.Bool.{true}
-use Prim.Native.Nat.{ℕ, zero, suc, _<_}
+use Prim.Native.Nat.{ℕ, zero, suc, _≤_, _<_}
+use native.Mathlib.Numerals.{add-one}
 use native.Mathlib.Omega.{arith}
 use native.Mathlib.Decide.{ℕ-discrete}
 use borrow.Author.Differences.{ints}
 use lib.IntN.{ℤ, pos, _+ℤ_, _-ℤ_}
-use lib.ListN.{length}
+use lib.ListN.{length, getD, take}
 use lib.Signed.{_≤ℤ_}
+use Rattle.std.specs.Iters.{folded}
+use Rattle.std.proofs.shelf.Lists.{take-all}
+use Rattle.std.proofs.shelf.Sums.{folded-more}
 use Rattle.std.proofs.shelf.Tests.{true≢false}
 use Rattle.network.specs.Nets.{Net}
 use Rattle.theory.specs.Arcs.{Arc, gather, outward, owed, AllFull}
@@ -72,3 +76,11 @@ total net plan e f = omega (arith, ints, total-parts (stations net) (balance-at 
 
 pub none-over : (net : Net) (plan : List ℕ) → EndsBelow net → Fits net plan → total-below (stations net) (balance-at net) ≡ pos 0 → ((v : ℕ) → v < stations net → left-over net plan v ≤ℤ pos 0) → Obeys net plan
 none-over net plan e f z h = obeys net plan f (λ v l. omega (arith, ints, h v l, total-each (stations net) (left-over net plan) h v l, total net plan e f))
+
+-- the sum of the first ones of a list
+total-front : (xs : List ℤ) (i : ℕ) → i ≤ length xs → total-below i (λ v. getD xs v (pos 0)) ≡ folded _+ℤ_ (pos 0) (take i xs)
+total-front xs zero h = refl
+total-front xs (suc i) h = ap (λ z. z +ℤ getD xs i (pos 0)) (total-front xs i (omega arith)) ∙ sym (rw add-one at (folded-more _+ℤ_ (pos 0) xs i (pos 0) (omega arith)))
+
+pub total-listed : (net : Net) → total-below (stations net) (balance-at net) ≡ folded _+ℤ_ (pos 0) (net .balances)
+total-listed net = total-front (net .balances) (stations net) (omega arith) ∙ ap (folded _+ℤ_ (pos 0)) (take-all (stations net) (net .balances) (omega arith))

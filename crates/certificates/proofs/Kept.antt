@@ -1,9 +1,10 @@
 -- Bikes sent along a tight step leave the certificate as it is: the step only grows dearer, and its reverse is tight.
+-- How many bikes may go along a step.
 use mathlib.Core.Path.{_≡_, sym, _∙_, ap, subst}
 use mathlib.Core.List.{List}
 use mathlib.Core.Bool.{cond}
 use mathlib.Core.Logic.{inl, inr}
-use Prim.Native.Nat.{ℕ, _+_, _-_, _≤_, _<_}
+use Prim.Native.Nat.{ℕ, min, _+_, _-_, _≤_, _<_}
 use native.Mathlib.Omega.{arith}
 use native.Mathlib.Decide.{ℕ-discrete}
 use borrow.Author.Differences.{ints}
@@ -15,9 +16,9 @@ use Rattle.std.proofs.shelf.Tests.{cases-lt}
 use Rattle.std.proofs.shelf.Ways.{tells}
 use Rattle.network.specs.Nets.{Net}
 use Rattle.theory.proofs.Adding
-use Rattle.plans.specs.Plans.{leg-at, amount, in-force}
-use Rattle.plans.specs.Residuals.{forth, back, forward, backward, step-both, both-group, Certifies}
-use Rattle.certificates.specs.Pushes.{more, fewer, SendsForth, SendsBack}
+use Rattle.plans.specs.Plans.{leg-at, amount, in-force, Fits}
+use Rattle.plans.specs.Residuals.{forth, back, Joined, forward, backward, step-both, both-group, Certifies}
+use Rattle.certificates.specs.Pushes.{more, fewer, SendsForth, SendsBack, room-forth, room-back}
 
 -- what a step over a leg costs, by its charge, its standing amount and its amount
 abbrev up : ℕ → ℕ → ℕ → ℤ × ℤ
@@ -53,13 +54,13 @@ module _ (net : Net) (standing plan : List ℕ) (π : ℕ → ℤ × ℤ) (k y :
   after f b u v z (forward i j p q h e) =
       elim (ℕ-discrete i k) [
         | yes d ↦ at-ends π (leg-at net k .start) (leg-at net k .end) u v (up (leg-at net k .charge) (amount standing k) y) z (ap (λ m. leg-at net m .start) (sym d) ∙ p) (ap (λ m. leg-at net m .end) (sym d) ∙ q)
-          (e ∙ ap (step-both net standing (set plan k y) forth) d ∙ ap (up (leg-at net k .charge) (amount standing k)) (getD-set-same plan k y 0 here)) f
+            (e ∙ ap (step-both net standing (set plan k y) forth) d ∙ ap (up (leg-at net k .charge) (amount standing k)) (getD-set-same plan k y 0 here)) f
         | no n ↦ c u v z (forward i j p q (rw (getD-set-other plan k i y 0 n) at h) (rw (getD-set-other plan k i y 0 n) at e))
       ]
   after f b u v z (backward i j p q h e) =
       elim (ℕ-discrete i k) [
         | yes d ↦ at-ends π (leg-at net k .end) (leg-at net k .start) u v (down (leg-at net k .charge) (amount standing k) y) z (ap (λ m. leg-at net m .end) (sym d) ∙ p) (ap (λ m. leg-at net m .start) (sym d) ∙ q)
-          (e ∙ ap (step-both net standing (set plan k y) back) d ∙ ap (down (leg-at net k .charge) (amount standing k)) (getD-set-same plan k y 0 here)) b
+            (e ∙ ap (step-both net standing (set plan k y) back) d ∙ ap (down (leg-at net k .charge) (amount standing k)) (getD-set-same plan k y 0 here)) b
         | no n ↦ c u v z (backward i j p q (rw (getD-set-other plan k i y 0 n) at h) (rw (getD-set-other plan k i y 0 n) at e))
       ]
 
@@ -73,8 +74,8 @@ forth-kept net standing plan π k b c s t =
     let l = leg-at net k in
     elim (cases-lt 0 b) [
       | inl h ↦ after net standing plan π k (amount plan k + b) c (s .planned)
-        (up-after-up (l .charge) (amount standing k) (amount plan k) (amount plan k + b) (π (l .start)) (π (l .end)) (omega arith) (t h))
-        (down-after-up (l .charge) (amount standing k) (amount plan k) (amount plan k + b) (π (l .start)) (π (l .end)) (s .short) (t h))
+          (up-after-up (l .charge) (amount standing k) (amount plan k) (amount plan k + b) (π (l .start)) (π (l .end)) (omega arith) (t h))
+          (down-after-up (l .charge) (amount standing k) (amount plan k) (amount plan k + b) (π (l .start)) (π (l .end)) (s .short) (t h))
       | inr h ↦ idle net standing plan π k (amount plan k + b) c (omega arith)
     ]
 
@@ -84,7 +85,39 @@ back-kept net standing plan π k b c s t =
     let l = leg-at net k in
     elim (cases-lt 0 b) [
       | inl h ↦ after net standing plan π k (amount plan k - b) c (s .planned)
-        (up-after-down (l .charge) (amount standing k) (amount plan k) (amount plan k - b) (π (l .start)) (π (l .end)) (s .beyond) (t h))
-        (down-after-down (l .charge) (amount standing k) (amount plan k) (amount plan k - b) (π (l .start)) (π (l .end)) (omega arith) (t h))
+          (up-after-down (l .charge) (amount standing k) (amount plan k) (amount plan k - b) (π (l .start)) (π (l .end)) (s .beyond) (t h))
+          (down-after-down (l .charge) (amount standing k) (amount plan k) (amount plan k - b) (π (l .start)) (π (l .end)) (omega arith) (t h))
       | inr h ↦ idle net standing plan π k (amount plan k - b) c (omega arith)
     ]
+
+-- ---- how many bikes may go
+room-up : (x s m : ℕ) → x < m → 0 < cond (ltb x s) (min s m) m - x
+room-up x s m h = grind (arith, tells)
+
+room-down : (x s : ℕ) → 0 < x → 0 < x - cond (ltb s x) s 0
+room-down x s h = grind (arith, tells)
+
+within-up : (x s m b : ℕ) → x ≤ m → b ≤ cond (ltb x s) (min s m) m - x → x + b ≤ m
+within-up x s m b h k = grind (arith, tells)
+
+short-up : (x s m b : ℕ) → b ≤ cond (ltb x s) (min s m) m - x → x < s → x + b ≤ s
+short-up x s m b k h = grind (arith, tells)
+
+beyond-down : (x s b : ℕ) → b ≤ x - cond (ltb s x) s 0 → s < x → s ≤ x - b
+beyond-down x s b k h = grind (arith, tells)
+
+pub rooms : (net : Net) (standing plan : List ℕ) (k : ℕ) → Fits net plan → Joined net k
+    → (amount plan k < in-force (leg-at net k) → 0 < room-forth net standing plan k)
+    × (0 < amount plan k → 0 < room-back standing plan k)
+    × ((b : ℕ) → b ≤ room-forth net standing plan k → SendsForth net standing plan k b)
+    × ((b : ℕ) → b ≤ room-back standing plan k → SendsBack net standing plan k b)
+rooms net standing plan k f j =
+    let x = amount plan k in
+    let s = amount standing k in
+    let m = in-force (leg-at net k) in
+    let here : k < length plan = omega (arith, f .one-each, j .there) in (
+      room-up x s m,
+      room-down x s,
+      λ b h. record { joined = j; planned = here; within = within-up x s m b (f .within k (j .there)) h; short = λ l. short-up x s m b h l },
+      λ b h. record { joined = j; planned = here; carried = omega arith; beyond = λ l. beyond-down x s b h l },
+    )

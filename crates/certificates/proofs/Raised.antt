@@ -1,18 +1,20 @@
 -- Labels on the stations that a search has reached, and the old potential raised elsewhere, are a certificate.
-use mathlib.Core.Path.{_≡_, refl, sym, _∙_, ap}
+-- A certificate excludes round trips below zero.
+use mathlib.Core.Path.{_≡_, refl, ap}
 use mathlib.Core.List.{List}
 use mathlib.Core.Bool.{Bool, true, false, cond}
-use mathlib.Core.Logic.{inl, inr}
 use Prim.Native.Nat.{ℕ, zero, suc, _+_, _<_}
 use native.Mathlib.Omega.{arith}
 use native.Mathlib.Decide.{ℕ-discrete}
 use borrow.Author.Differences.{ints}
-use lib.IntN.{ℤ, pos, negsuc, _+ℤ_, _-ℤ_}
+use lib.IntN.{ℤ, pos, negsuc, _-ℤ_}
 use lib.Signed.{_<ℤ_}
 use Rattle.std.proofs.shelf.Tests.{both-ways}
 use Rattle.network.specs.Nets.{Net}
+use Rattle.theory.proofs.Walking
 use Rattle.plans.specs.Plans.{stations}
 use Rattle.plans.specs.Residuals.{step-both, BothStep, both-group, Certifies}
+use Rattle.plans.specs.Prices.{BothRoundTrip}
 use Rattle.plans.proofs.Listed.{to-below}
 
 -- ---- a number above all of finitely many integers
@@ -24,11 +26,13 @@ above-all : (n : ℕ) (f : ℕ → ℤ) → (m : ℕ) × ((v : ℕ) → v < n �
 above-all zero f = (0, λ v h. absurd (omega arith))
 above-all (suc n) f =
     let r = above-all n f in
-    let s = above (f n) in
-    (r .0 + s .0, λ v h. elim (ℕ-discrete v n) [
-      | yes e ↦ omega (arith, ints, s .1, ap f e)
-      | no d ↦ omega (arith, ints, r .1 v (omega arith))
-    ])
+    let s = above (f n) in (
+      r .0 + s .0,
+      λ v h. elim (ℕ-discrete v n) [
+        | yes e ↦ omega (arith, ints, s .1, ap f e)
+        | no d ↦ omega (arith, ints, r .1 v (omega arith))
+      ],
+    )
 
 -- ---- the labels where reached, else the potential raised by m cents
 abbrev pub raised : (ℕ → Bool) → (ℕ → ℤ × ℤ) → (ℕ → ℤ × ℤ) → ℕ → ℕ → ℤ × ℤ
@@ -48,3 +52,6 @@ module _ (net : Net) (standing plan : List ℕ) (π : ℕ → ℤ × ℤ) (r : �
   extended p h =
       let a = above-all (stations net) (λ v. d v .0 -ℤ π v .0) in
       (raised r d π (a .0), λ u v c s. one-step (r u) (r v) (d u) (d v) (π u) (π v) c (a .0) (h u v c s) (p u v c s) (a .1 v (to-below net plan (step-both net standing plan) u v c s)), λ v e. rw e)
+
+pub no-round-trip : (net : Net) (standing plan : List ℕ) (π : ℕ → ℤ × ℤ) → Certifies net standing plan π → BothRoundTrip net standing plan → ⊥
+no-round-trip net standing plan π c trip = Walking.no-trip-at both-group (BothStep net standing plan) (λ _. Unit {0}) π (λ u v z _ s. (tt, c u v z s)) trip tt

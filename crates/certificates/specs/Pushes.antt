@@ -3,10 +3,14 @@
 --   fewer       the plan with b bikes less on a leg
 --   SendsForth  b bikes may go along the forward step of a leg, at what the step costs now
 --   SendsBack   the same along the backward step
+--   room-forth  how many bikes may go along the forward step
+--   room-back   how many bikes may go along the backward step
 --   Sent        what a plan is after b bikes went from one station to another
+use mathlib.Core.Bool.{cond}
 use mathlib.Core.List.{List}
 use mathlib.Core.Path.{_≡_}
-use Prim.Native.Nat.{ℕ, _+_, _-_, _≤_, _<_}
+use Prim.Native.Nat.{ℕ, min, _+_, _-_, _≤_, _<_}
+use lib.Dec.{ltb}
 use lib.IntN.{pos, _+ℤ_, _-ℤ_}
 use lib.ListN.{length, set}
 use Rattle.network.specs.Nets.{Net}
@@ -34,6 +38,12 @@ pub record SendsBack (net : Net) (standing plan : List ℕ) (k b : ℕ) : Type 0
   pub planned : k < length plan
   pub carried : b ≤ amount plan k
   pub beyond : amount standing k < amount plan k → amount standing k ≤ amount plan k - b
+
+abbrev pub room-forth : Net → List ℕ → List ℕ → ℕ → ℕ
+room-forth net standing plan k = cond (ltb (amount plan k) (amount standing k)) (min (amount standing k) (in-force (leg-at net k))) (in-force (leg-at net k)) - amount plan k
+
+abbrev pub room-back : List ℕ → List ℕ → ℕ → ℕ
+room-back standing plan k = amount plan k - cond (ltb (amount standing k) (amount plan k)) (amount standing k) 0
 
 -- `moved` says of every station what the fields behind it say one by one; `here b u w` is b where w is u, else 0
 pub record Sent (net : Net) (plan after : List ℕ) (b u v : ℕ) : Type 0 where

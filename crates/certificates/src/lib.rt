@@ -1,5 +1,5 @@
 // What a planner by repeated cheapest walks rests on: each theorem is the promise of one function.
-ghost use Rattle.certificates.specs.Theorems.{FirstIsCertified, LabelsExtend, LeftOversSum, NoneOverObeys, NothingLeftObeys, PushKeepsCertificate, PushMovesEnds};
+ghost use Rattle.certificates.specs.Theorems.{BalancesTotal, FirstIsCertified, LabelsExtend, LeftOversSum, NoRoundTrip, NoneOverObeys, NothingLeftObeys, PushKeepsCertificate, PushLowersOver, PushMovesEnds, PushesJoin, RoomsSuffice};
 
 // Bikes sent along a tight residual step, not past the standing amount, leave the certificate as it is.
 pub fn push_along_a_tight_step_keeps_the_certificate() -> u8
@@ -47,6 +47,41 @@ pub fn left_overs_sum_to_the_balances() -> u8
 // Where the balances sum to 0, a plan that fits and leaves bikes over nowhere obeys.
 pub fn none_over_obeys() -> u8
     ensures { λ _. ⌜ NoneOverObeys ⌝ }
+{
+    0
+}
+
+// A residual step has room for a bike, and as many bikes as it has room for may go along it at what it costs now.
+pub fn rooms_suffice() -> u8
+    ensures { λ _. ⌜ RoomsSuffice ⌝ }
+{
+    0
+}
+
+// Bikes sent from one station to a second, and from there to a third, are sent from the first to the third.
+pub fn pushes_join() -> u8
+    ensures { λ _. ⌜ PushesJoin ⌝ }
+{
+    0
+}
+
+// Bikes sent from a station that has them over to one that lacks them are over no more.
+pub fn push_lowers_what_is_over() -> u8
+    ensures { λ _. ⌜ PushLowersOver ⌝ }
+{
+    0
+}
+
+// A certificate excludes round trips that total below zero, in pairs of cents and bikes.
+pub fn certificate_excludes_round_trips_below_zero() -> u8
+    ensures { λ _. ⌜ NoRoundTrip ⌝ }
+{
+    0
+}
+
+// The sum of the balances by number is that of their list.
+pub fn balances_total_is_that_of_their_list() -> u8
+    ensures { λ _. ⌜ BalancesTotal ⌝ }
 {
     0
 }
