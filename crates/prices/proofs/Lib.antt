@@ -1,3 +1,2 @@
 pub mod Filling
-pub mod Mapping
 pub mod Settling

@@ -9,9 +9,9 @@ use lib.ListN.{drop}
 use lib.Signed.{_≤ℤ_}
 use Rattle.std.specs.declared.option.Option.the-variants.{Some, None}
 use Rattle.network.specs.Nets.{Net}
-use Rattle.theory.specs.Groups.{whole}
-use Rattle.theory.specs.Walks
-use Rattle.theory.specs.Walks.{start, Reached}
+use Rattle.theory.specs.Groups.{OrderedGroup, whole}
+use Rattle.theory.specs.Walks.{start, Way, rest, go, RoundTrip, Reached}
+use Rattle.theory.proofs.Walking
 use Rattle.plans.specs.Plans.{stations}
 use Rattle.plans.specs.Residuals.{Step, CentsStep, step-cents}
 use Rattle.plans.specs.Prices.{Station, Price, CentsRoundTrip}
@@ -25,7 +25,15 @@ use Rattle.search.proofs.Optional.{option-cases}
 use Rattle.search.proofs.Paying.{cents-same}
 use Rattle.search.proofs.Stepping.{ends}
 use Rattle.prices.specs.Priced.{price-at, price-in, total-in, Writes, Prices}
-use Rattle.prices.proofs.Mapping.{walk-map, trip-map, simple-map, least-price, trip-reached}
+
+-- where walks start at the end of every step, every round trip below zero is reached
+module _ {A : Type 0} (G : OrderedGroup A) (F : ℕ → Type 0) (S : ℕ → ℕ → A → Type 0) (ends-start : (u v : ℕ) (c : A) → S u v c → F v) where
+  at-end : {o v : ℕ} {us : List ℕ} {z : A} → Way G S o v us z → (G .le (G .zero) z → ⊥) → F v
+  at-end rest n = absurd (n (G .le-refl (G .zero)))
+  at-end (go {u = u} {v = v} {c = c} w p) n = ends-start u v c p
+
+  trip-reached : RoundTrip G S → Reached G F S
+  trip-reached t = record { trip = t; before = []; total = G .zero; walk = start (at-end (t .way) (t .below)) }
 
 module _ (net : Net) (plan : List ℕ) where
   -- the search's starts and steps
@@ -48,19 +56,11 @@ module _ (net : Net) (plan : List ℕ) where
   of-station v p = (p, refl)
 
   pub trip-of : Reached whole Everywhere Fee → CentsRoundTrip net plan
-  trip-of r = trip-map whole Everywhere (Station net) Fee (CentsStep net plan) to-station to-step (r .trip)
+  trip-of r = Walking.trip-map whole to-step (r .trip)
 
   pub no-trip-of : (Reached whole Everywhere Fee → ⊥) → CentsRoundTrip net plan → ⊥
   no-trip-of none t =
-      none (trip-reached whole Everywhere Fee (λ u v c s. of-station v (ends net plan (paid cents-worth net plan) u v c s .1))
-        (trip-map whole (Station net) Everywhere (CentsStep net plan) Fee of-station of-step t))
-
-  price-map : (v : ℕ) (t : ℤ) → Walks.Price whole Everywhere Fee v t → Price net plan v t
-  price-map v t p =
-      record {
-        attained = simple-map whole Everywhere (Station net) Fee (CentsStep net plan) to-station to-step (p .attained);
-        least = λ s k. p .least s (simple-map whole (Station net) Everywhere (CentsStep net plan) Fee of-station of-step k)
-      }
+      none (trip-reached whole Everywhere Fee (λ u v c s. of-station v (ends net plan (paid cents-worth net plan) u v c s .1)) (Walking.trip-map whole of-step t))
 
   module _ (ls : List (Label Cents)) (z : Settles whole (λ (c : Cents). c .0) (stations net) Everywhere Fee (Over net plan (paid cents-worth net plan)) ls) where
     label-price : (v : ℕ) → v < stations net → Price net plan v (price-in (label-at ls v))
@@ -68,7 +68,7 @@ module _ (net : Net) (plan : List ℕ) where
         elim (option-cases (label-at ls v .arrival)) [
           inl e ↦ absurd (z .unreached v h e [] (pos 0) (start (of-station v h)))
         | inr x ↦
-          let p = price-map v _ (least-price whole Everywhere Fee (z .no-trip) v _ (z .least v (x .0) h (x .1))) in
+          let p = Walking.price-map whole to-station of-station to-step of-step v _ (Walking.least-price whole Everywhere Fee (z .no-trip) v _ (z .least v (x .0) h (x .1))) in
           rw (x .1) p ]
 
     module _ (before after : List ℤ) (w : Writes (stations net) ls before after) where

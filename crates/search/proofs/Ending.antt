@@ -21,7 +21,7 @@ use Rattle.search.specs.declared.label.Last.{Last}
 use Rattle.search.specs.declared.label.Last.the-variants.{Start}
 use Rattle.search.specs.declared.label.Arrival.{Arrival}
 use Rattle.search.specs.declared.label.Label as labels
-use Rattle.search.proofs.Optional.{none-some, some-same, held-at, at-most-up}
+use Rattle.search.proofs.Optional.{none-some, some-same}
 
 module _ {C A : Type 0} (G : OrderedGroup A) (worth : C → A) (size : C → ℕ) (n : ℕ) (F : ℕ → Type 0) (S : ℕ → ℕ → A → Type 0) (T : Last → ℕ → ℕ → A → Type 0)
   (ends : (u v : ℕ) (c : A) → S u v c → (u < n) × (v < n)) (into : (l : Last) (u v : ℕ) (c : A) → T l u v c → S u v c) where

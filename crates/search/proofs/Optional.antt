@@ -5,7 +5,6 @@ use mathlib.Core.Logic.{_⊎_, inl, inr, _≢_}
 use mathlib.Core.Path.{_≡_, refl, sym, _∙_, ap}
 use Prim.Native.Nat.{ℕ, _<_}
 use native.Mathlib.Omega.{arith}
-use native.Mathlib.Decide.{ℕ-discrete}
 use lib.ListN.{length, set}
 use lib.Seq.{getD-set-same, getD-set-other}
 use Rattle.std.specs.declared.option.Option.{Option}
@@ -50,10 +49,6 @@ module _ {A : Type 0} (G : OrderedGroup A) where
 
   pub cancel-right : (a b c : A) → G .le (G .add a c) (G .add b c) → G .le a b
   cancel-right a b c h = cancel G a b c (rw (G .comm a c, G .comm b c) at h)
-
-  pub at-most-up : (o : Option A) (s t : A) → G .le s t → AtMost G o s → AtMost G o t
-  at-most-up None s t h k = absurd k
-  at-most-up (Some a) s t h k = G .le-trans _ _ _ k h
 
   -- what is not at most x and is at most t: x is at most t
   pub undercut : (o : Option A) (x t : A) → (AtMost G o x → ⊥) → AtMost G o t → G .le x t

@@ -12,13 +12,14 @@ use Rattle.std.proofs.shelf.Tests.{cases-bool, both-ways}
 use Rattle.theory.specs.Groups.{OrderedGroup}
 use Rattle.theory.specs.Walks.{Walk, start, step, AtMost}
 use Rattle.theory.proofs.Adding.{shift-right}
+use Rattle.theory.proofs.Walking.{at-most-up}
 use Rattle.search.specs.Labels.{label-at, best, held, lowest, committed, committed-by}
 use Rattle.search.specs.Sweeps.{place, Sweep, Found}
 use Rattle.search.specs.Rounds.{Attained, CameBy, Came, After, Late, Commits, Still}
 use Rattle.search.specs.declared.label.Last.{Last}
 use Rattle.search.specs.declared.label.Arrival.{Arrival}
 use Rattle.search.specs.declared.label.Label.{Label}
-use Rattle.search.proofs.Optional.{none-some, some-same, option-cases, at-most-up, held-at, held-is, turned, cancel-right}
+use Rattle.search.proofs.Optional.{none-some, some-same, option-cases, held-at, held-is, turned, cancel-right}
 
 -- one round more
 module _ {C A : Type 0} (G : OrderedGroup A) (worth : C → A) (size : C → ℕ) (n : ℕ) (F : ℕ → Type 0) (S : ℕ → ℕ → A → Type 0) (T : Last → ℕ → ℕ → A → Type 0)
