@@ -18,7 +18,7 @@ use table::Table;
 use table::TableNetwork;
 
 // An open leg.
-pub fn leg(start: u16, end: u16, capacity: u16, charge: u32) -> Leg {
+pub(crate) fn leg(start: u16, end: u16, capacity: u16, charge: u32) -> Leg {
     Leg {
         start,
         end,
@@ -46,13 +46,13 @@ fn run(rt: &LibcRuntime, name: &str, legs: &mut [Leg], plan: &[u16], starts: &[b
 }
 
 // Two walks of the same total: the first that is found stays.
-pub fn ties(rt: &LibcRuntime) -> io::Result<()> {
+pub(crate) fn ties(rt: &LibcRuntime) -> io::Result<()> {
     let mut legs = [leg(0, 1, 1, 5), leg(0, 2, 1, 5), leg(1, 3, 1, 5), leg(2, 3, 1, 5), leg(0, 3, 1, 10)];
     run(rt, "ties", &mut legs, &[], &[true])
 }
 
 // Full, shut and absent legs.
-pub fn unreachable_stations(rt: &LibcRuntime) -> io::Result<()> {
+pub(crate) fn unreachable_stations(rt: &LibcRuntime) -> io::Result<()> {
     let shut = Leg {
         start: 0,
         end: 2,
@@ -65,37 +65,37 @@ pub fn unreachable_stations(rt: &LibcRuntime) -> io::Result<()> {
 }
 
 // A round trip of zero changes nothing.
-pub fn zero_charges(rt: &LibcRuntime) -> io::Result<()> {
+pub(crate) fn zero_charges(rt: &LibcRuntime) -> io::Result<()> {
     let mut legs = [leg(0, 1, 3, 0), leg(1, 2, 3, 0), leg(2, 0, 3, 0), leg(3, 3, 3, 0)];
     run(rt, "zero charges", &mut legs, &[1, 1, 1, 1], &[false, true])
 }
 
 // Of two legs between the same stations, the cheaper one leads forth and the dearer one back.
-pub fn parallel_legs(rt: &LibcRuntime) -> io::Result<()> {
+pub(crate) fn parallel_legs(rt: &LibcRuntime) -> io::Result<()> {
     let mut legs = [leg(0, 1, 3, 9), leg(0, 1, 3, 4), leg(0, 1, 3, 4), leg(1, 2, 3, 1)];
     run(rt, "parallel", &mut legs, &[0, 2, 3, 0], &[true])
 }
 
 // Bikes on the dearer leg while the cheaper one has capacity left.
-pub fn round_trip(rt: &LibcRuntime) -> io::Result<()> {
+pub(crate) fn round_trip(rt: &LibcRuntime) -> io::Result<()> {
     let mut legs = [leg(0, 1, 3, 5), leg(0, 1, 3, 9), leg(1, 2, 3, 1)];
     run(rt, "round trip", &mut legs, &[0, 1, 0], &[true])
 }
 
 // The same, where no start reaches it: the search settles, but prices start everywhere.
-pub fn round_trip_out_of_reach(rt: &LibcRuntime) -> io::Result<()> {
+pub(crate) fn round_trip_out_of_reach(rt: &LibcRuntime) -> io::Result<()> {
     let mut legs = [leg(0, 1, 3, 5), leg(0, 1, 3, 9), leg(1, 2, 3, 1)];
     run(rt, "out of reach", &mut legs, &[0, 1, 0], &[false, false, true])
 }
 
 // A leg with an end that is no station gives no step; more bikes than capacity still go back.
-pub fn nonsense(rt: &LibcRuntime) -> io::Result<()> {
+pub(crate) fn nonsense(rt: &LibcRuntime) -> io::Result<()> {
     let mut legs = [leg(0, 9, 3, 5), leg(9, 1, 3, 5), leg(2, 0, 1, 5)];
     run(rt, "nonsense", &mut legs, &[1, 1, 60000], &[true])
 }
 
 // Totals beyond 32 bits, forth and back.
-pub fn highest_charges(rt: &LibcRuntime) -> io::Result<()> {
+pub(crate) fn highest_charges(rt: &LibcRuntime) -> io::Result<()> {
     let mut legs = [leg(0, 1, 1, 4294967295), leg(1, 2, 1, 4294967295), leg(2, 3, 1, 4294967295)];
     run(rt, "highest charges", &mut legs, &[], &[true])?;
     run(rt, "highest charges back", &mut legs, &[1, 1, 1], &[false, false, false, true])?;

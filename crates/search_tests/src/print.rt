@@ -16,7 +16,7 @@ fn refused(rt: &LibcRuntime, refusal: Refusal) -> io::Result<()> {
 }
 
 // How a search ended.
-pub fn outcome(rt: &LibcRuntime, name: &str, answer: Result<Outcome, Refusal>) -> io::Result<()> {
+pub(crate) fn outcome(rt: &LibcRuntime, name: &str, answer: Result<Outcome, Refusal>) -> io::Result<()> {
     print!(rt, "{name}: ")?;
     match answer {
         Ok(Outcome::Settled) => println!(rt, "settled"),
@@ -26,7 +26,7 @@ pub fn outcome(rt: &LibcRuntime, name: &str, answer: Result<Outcome, Refusal>) -
 }
 
 // Whether prices were written, and the slice.
-pub fn prices(rt: &LibcRuntime, name: &str, answer: Result<bool, Refusal>, prices: &[i64]) -> io::Result<()> {
+pub(crate) fn prices(rt: &LibcRuntime, name: &str, answer: Result<bool, Refusal>, prices: &[i64]) -> io::Result<()> {
     print!(rt, "{name}: ")?;
     match answer {
         Ok(true) => println!(rt, "written")?,
@@ -46,7 +46,7 @@ fn last(rt: &LibcRuntime, last: Last) -> io::Result<()> {
 }
 
 // Labels in cents.
-pub fn labels(rt: &LibcRuntime, labels: &[Label<Cents>]) -> io::Result<()> {
+pub(crate) fn labels(rt: &LibcRuntime, labels: &[Label<Cents>]) -> io::Result<()> {
     for (station, label) in labels.iter().enumerate() {
         print!(rt, "  {station}: ")?;
         match label.arrival {
@@ -62,7 +62,7 @@ pub fn labels(rt: &LibcRuntime, labels: &[Label<Cents>]) -> io::Result<()> {
 }
 
 // Labels in cents and bikes of difference.
-pub fn both_labels(rt: &LibcRuntime, labels: &[Label<Pair<Cents, Bikes>>]) -> io::Result<()> {
+pub(crate) fn both_labels(rt: &LibcRuntime, labels: &[Label<Pair<Cents, Bikes>>]) -> io::Result<()> {
     for (station, label) in labels.iter().enumerate() {
         print!(rt, "  {station}: ")?;
         match label.arrival {

@@ -42,7 +42,7 @@ fn legs() -> [Leg; 3] {
 }
 
 // The cheapest plan: the third leg alone has capacity left.
-pub fn prices_of_plan(rt: &LibcRuntime) -> io::Result<()> {
+pub(crate) fn prices_of_plan(rt: &LibcRuntime) -> io::Result<()> {
     let mut legs = legs();
     let mut stations = STATIONS;
     let table = Table {
@@ -56,7 +56,7 @@ pub fn prices_of_plan(rt: &LibcRuntime) -> io::Result<()> {
 }
 
 // With no bikes, no step goes back; amounts that are missing count as 0.
-pub fn prices_of_empty_plan(rt: &LibcRuntime) -> io::Result<()> {
+pub(crate) fn prices_of_empty_plan(rt: &LibcRuntime) -> io::Result<()> {
     let mut legs = legs();
     let mut stations = STATIONS;
     let table = Table {
@@ -70,7 +70,7 @@ pub fn prices_of_empty_plan(rt: &LibcRuntime) -> io::Result<()> {
 }
 
 // From station 0 alone, with no bikes under way.
-pub fn from_first_station(rt: &LibcRuntime) -> io::Result<()> {
+pub(crate) fn from_first_station(rt: &LibcRuntime) -> io::Result<()> {
     let mut legs = legs();
     let mut stations = STATIONS;
     let table = Table {
@@ -85,7 +85,7 @@ pub fn from_first_station(rt: &LibcRuntime) -> io::Result<()> {
 
 // In cents and bikes of difference from the standing plan 1, 3: of two legs at the same charge, the
 // one that comes nearer to it. The standing amount of the third leg is missing.
-pub fn in_both(rt: &LibcRuntime) -> io::Result<()> {
+pub(crate) fn in_both(rt: &LibcRuntime) -> io::Result<()> {
     let mut legs = [leg(0, 1, 4, 20), leg(0, 1, 4, 20), leg(1, 2, 4, 10)];
     let mut stations = STATIONS;
     let table = Table {
@@ -104,7 +104,7 @@ pub fn in_both(rt: &LibcRuntime) -> io::Result<()> {
 }
 
 // Slices that are too short are refused, with nothing altered.
-pub fn too_short(rt: &LibcRuntime) -> io::Result<()> {
+pub(crate) fn too_short(rt: &LibcRuntime) -> io::Result<()> {
     let mut legs = legs();
     let mut stations = STATIONS;
     let table = Table {
