@@ -8,10 +8,10 @@ pub returns-in-Ok : goal.returns-in-Ok
 returns-in-Ok c =
     let room : Room = record { stations = length c.args.stations.now; legs = length c.args.legs.now } in
     let whole : room ≡ whole_room = λ i. record { stations = c.requires.1 i; legs = c.requires.0 i } in
-    table_printed c.canonical-text.result string_bytes c.args.text.now room _ whole c.in-Ok.ensures c.canonical-text.ensures
+    table_printed c.canonical_text.result string_bytes c.args.text.now room _ whole c.in-Ok.ensures c.canonical_text.ensures
 
 pub returns-in-Err : goal.returns-in-Err
 returns-in-Err c =
     let room : Room = record { stations = length c.args.stations.now; legs = length c.args.legs.now } in
     let whole : room ≡ whole_room = λ i. record { stations = c.requires.1 i; legs = c.requires.0 i } in
-    fall_printed c.refusal-text.result string_bytes c.args.text.now room _ whole c.in-Err.ensures c.refusal-text.ensures
+    fall_printed c.refusal_text.result string_bytes c.args.text.now room _ whole c.in-Err.ensures c.refusal_text.ensures

@@ -2,8 +2,8 @@ use Rattle.std.proofs.Common.{◌<◌, length, sym, ◌∙◌, arith, rules}
 use Rattle.listing.proofs.Writing.{enters_new, has_room}
 use Rattle.listing.proofs.enter.Goals as goal
 
-pub offset-bounds-out-long : goal.offset-bounds-out-long
-offset-bounds-out-long g c =
+pub offset_bounds-out-long : goal.offset_bounds-out-long
+offset_bounds-out-long g c =
     let few = has_room c.args.count c.args.long c.args.number c.args.marks.now c.args.out.now c.requires c.if-number-count.false c.if-marks-number.false in
     let room : c.args.long < length c.args.out.now = omega (arith, few, c.requires.slice_suffices) in
     search rules
@@ -13,8 +13,8 @@ bounds-out-long g c =
     let few = has_room c.args.count c.args.long c.args.number c.args.marks.now c.args.out.now c.requires c.if-number-count.false c.if-marks-number.false in
     omega (arith, few, c.requires.slice_suffices)
 
-pub overflow-add-result : goal.overflow-add-result
-overflow-add-result g c =
+pub overflow_add-result : goal.overflow_add-result
+overflow_add-result g c =
     let few = has_room c.args.count c.args.long c.args.number c.args.marks.now c.args.out.now c.requires c.if-number-count.false c.if-marks-number.false in
     let room : c.args.long < c.args.count = few in
     search rules

@@ -21,11 +21,11 @@ pub returns-then-not-turns : goal.returns-then-not-turns
 returns-then-not-turns g c =
     let net = g.N.Network.meaning c.args.net.now in
     let ls = c.turns.new.labels in
-    let w : WritesCut (stations net) ls c.write-cut-count.result c.args.cut.now c.write-cut-count.new.cut =
-    subst (λ n. WritesCut n ls c.write-cut-count.result c.args.cut.now c.write-cut-count.new.cut) c.stations.ensures c.write-cut-count.ensures in (
-      c.write-cut-count.result,
+    let w : WritesCut (stations net) ls c.write_cut-count.result c.args.cut.now c.write_cut-count.new.cut =
+    subst (λ n. WritesCut n ls c.write_cut-count.result c.args.cut.now c.write_cut-count.new.cut) c.stations.ensures c.write_cut-count.ensures in (
+      c.write_cut-count.result,
       refl,
-      impossible net c.write-cut-count.result ls c.args.prices.now c.args.cut.now c.write-cut-count.new.cut c.requires.ends_below c.requires.cut_room
+      impossible net c.write_cut-count.result ls c.args.prices.now c.args.cut.now c.write_cut-count.new.cut c.requires.ends_below c.requires.cut_room
           (subst (λ b. TurnsEnd net c.args.standing.now b c.turns.new.plan c.turns.new.left ls) c.if-not-turns.true c.turns.ensures) w,
     )
 

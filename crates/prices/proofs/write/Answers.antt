@@ -13,10 +13,10 @@ pub loop-station-preserved : goal.loop-station-preserved
 loop-station-preserved c =
     let i = c.loop-station.station in
     let ls = c.args.labels.now in
-    let fits : SFits w64 c.price-of.result = search rules in
+    let fits : SFits w64 c.price_of.result = search rules in
     let inside : i < length ls = omega (arith, c.requires.0) in
-    let e : to_z w64 (of_z w64 c.price-of.result) ≡ price_in (label_at ls i) =
-    to_z-of_z w64 c.price-of.result fits ∙ c.price-of.ensures ∙ ap price_in (get_or_default ls i _ unlabelled inside) in
+    let e : to_z w64 (of_z w64 c.price_of.result) ≡ price_in (label_at ls i) =
+    to_z-of_z w64 c.price_of.result fits ∙ c.price_of.ensures ∙ ap price_in (get_or_default ls i _ unlabelled inside) in
     writing_more c.args.stations i ls c.args.prices.now c.loop-station.prices _ (omega arith) (omega (arith, c.requires.1)) (ap (set c.loop-station.prices i) e) c.loop-station.invariant
 
 pub returns : goal.returns

@@ -5,7 +5,7 @@ use Rattle.sums.proofs.difference_of.Goals as goal
 
 pub loop-number-preserved : goal.loop-number-preserved
 loop-number-preserved g c = (
-  sum_more (λ k. apart (amount c.args.plan.now k) (amount c.args.standing.now k)) c.loop-number.number c.loop-number.total c.apart-on-total.result c.loop-number.invariant.0 c.apart-on-total.ensures.value,
-  omega (arith, c.apart-on-total.ensures.bound),
+  sum_more (λ k. apart (amount c.args.plan.now k) (amount c.args.standing.now k)) c.loop-number.number c.loop-number.total c.apart_on-total.result c.loop-number.invariant.0 c.apart_on-total.ensures.value,
+  omega (arith, c.apart_on-total.ensures.bound),
   c.loop-number.invariant.2,
 )

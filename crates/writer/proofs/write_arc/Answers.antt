@@ -6,5 +6,5 @@ use Rattle.writer.proofs.write_arc.Goals as goal
 pub returns : goal.returns
 returns c =
     arc_added c.writeln.result (string_bytes c.args.out.now) (string_bytes c.writeln.new.self)
-    c.args.leg.now c.id-of-source.result c.id-of-target.result c.id-of-source.ensures c.id-of-target.ensures
+    c.args.leg.now c.id_of-source.result c.id_of-target.result c.id_of-source.ensures c.id_of-target.ensures
     c.writeln.ensures.bytes

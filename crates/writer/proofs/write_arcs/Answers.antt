@@ -13,7 +13,7 @@ loop-leg-preserved c =
     let i = c.loop-leg.leg-index in
     let before = string_bytes c.loop-leg.out in
     let d = drop_more legs i cleared_leg c.loop-leg-test.true in
-    more_added before _ _ _ _ (ap (λ xs. before ++ flat_map ended (map arc_line xs)) (sym d) ∙ c.loop-leg.invariant) c.in-ok-write-arc.ensures
+    more_added before _ _ _ _ (ap (λ xs. before ++ flat_map ended (map arc_line xs)) (sym d) ∙ c.loop-leg.invariant) c.in_ok-write_arc.ensures
 
 pub returns : goal.returns
 returns c =

@@ -5,6 +5,6 @@ use Rattle.writer.proofs.write_network.Goals as goal
 
 pub returns : goal.returns
 returns c =
-    network_added c.write-arcs.result (string_bytes c.args.out.now) (string_bytes c.write-problem.new.out)
-    (string_bytes c.write-nodes.new.out) (string_bytes c.write-arcs.new.out) c.args.stations.now c.args.legs.now
-    c.in-ok-write-problem.ensures c.in-ok-write-nodes.ensures c.write-arcs.ensures
+    network_added c.write_arcs.result (string_bytes c.args.out.now) (string_bytes c.write_problem.new.out)
+    (string_bytes c.write_nodes.new.out) (string_bytes c.write_arcs.new.out) c.args.stations.now c.args.legs.now
+    c.in_ok-write_problem.ensures c.in_ok-write_nodes.ensures c.write_arcs.ensures

@@ -7,7 +7,7 @@ use Rattle.records.specs.Cleared.{cleared_station}
 use Rattle.writer.specs.Canonical.{node_lines, ended}
 use Rattle.writer.proofs.Adding.{station_added, station_passed, all_added}
 use Rattle.writer.proofs.write_nodes.Goals as goal
-use Rattle.writer.proofs.write_nodes.Goals.{then-not-is-balanced+in-ok-write-node, else-not-is-balanced}
+use Rattle.writer.proofs.write_nodes.Goals.{then-not-is_balanced+in_ok-write_node, else-not-is_balanced}
 
 pub loop-i-preserved : goal.loop-i-preserved
 loop-i-preserved c =
@@ -18,13 +18,13 @@ loop-i-preserved c =
     let rest = node_lines (i + 1) (drop (i + 1) stations) in
     let d = drop_more stations i cleared_station c.loop-i-test.true in
     let inv = ap (λ xs. before ++ flat_map ended (node_lines i xs)) (sym d) ∙ c.loop-i.invariant in
-    elim c.if-not-is-balanced.branch [
-      | then-not-is-balanced+in-ok-write-node w ↦
+    elim c.if-not-is_balanced.branch [
+      | then-not-is_balanced+in_ok-write_node w ↦
           (let fits : SFits w32 z = search rules in
-          station_added before _ (i + 1) z rest _ fits (λ e. false≢true (sym w.if-not-is-balanced.true ∙ c.is-balanced.ensures.1 e)) inv
-          (ap string_bytes w.out-is ∙ w.in-ok-write-node.ensures))
-      | else-not-is-balanced w ↦
-          station_passed before _ (i + 1) z rest _ (c.is-balanced.ensures.0 w.if-not-is-balanced.false) inv (ap string_bytes w.out-is)
+          station_added before _ (i + 1) z rest _ fits (λ e. false≢true (sym w.if-not-is_balanced.true ∙ c.is_balanced.ensures.1 e)) inv
+          (ap string_bytes w.out-is ∙ w.in_ok-write_node.ensures))
+      | else-not-is_balanced w ↦
+          station_passed before _ (i + 1) z rest _ (c.is_balanced.ensures.0 w.if-not-is_balanced.false) inv (ap string_bytes w.out-is)
     ]
 
 pub returns : goal.returns

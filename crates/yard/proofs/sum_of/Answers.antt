@@ -4,11 +4,11 @@ use Rattle.network.proofs.Places.{nth_there}
 use Rattle.yard.proofs.Sums.{total_all, total_more}
 use Rattle.yard.proofs.sum_of.Goals as goal
 
-pub returns-in-default : goal.returns-in-default
-returns-in-default g c =
+pub returns-in_default : goal.returns-in_default
+returns-in_default g c =
     let bs = (g.N.Network.meaning c.args.network.now).balances in
     let l : c.loop-station.station < length bs = omega arith in
-    absurd (nth_there bs c.loop-station.station l (sym c.in-default.ensures))
+    absurd (nth_there bs c.loop-station.station l (sym c.in_default.ensures))
 
 pub loop-station-preserved : goal.loop-station-preserved
 loop-station-preserved g c =

@@ -6,10 +6,10 @@ use Rattle.chain_search.proofs.Chaining.{chained_skip, chained_put}
 use Rattle.chain_search.proofs.chains.link_leg.Goals as goal
 use Rattle.chain_search.proofs.chains.link_leg.Goals.{then-leg-stations-via-then-leg-stations, then-leg-stations-via-else-leg-stations+then-leg-stations-2}
 
-pub returns-in-default : goal.returns-in-default
-returns-in-default g c =
+pub returns-in_default : goal.returns-in_default
+returns-in_default g c =
     let net = g.N.Network.meaning c.args.net.now in
-    let h : length net.legs ≤ c.args.number = nth_none net.legs c.args.number (sym c.in-default.ensures) in
+    let h : length net.legs ≤ c.args.number = nth_none net.legs c.args.number (sym c.in_default.ensures) in
     chained_skip net c.args.number c.args.heads.now c.args.nexts.now (λ j. omega (arith, j.there))
 
 pub returns-then-leg-stations : goal.returns-then-leg-stations
@@ -30,5 +30,5 @@ returns g c =
     let t : k < length net.legs = nth_some net.legs k c.in-Some.leg (sym c.in-Some.ensures) in
     let s : (leg_at net k).start < stations net = omega (arith, c.if-leg-stations.false, c.stations-stations.ensures, ap (λ l. l.start) e) in
     let f : (leg_at net k).end < stations net = omega (arith, c.if-leg-stations-2.false, c.stations-stations.ensures, ap (λ l. l.end) e) in
-    chained_put net k c.in-Some.leg c.args.heads.now c.args.nexts.now c.put-leg.new.heads c.put-leg.new.nexts (record { there = t; start_below = s; end_below = f }) e c.requires.1.0 c.requires.1.1
-    c.put-leg.ensures.heads c.put-leg.ensures.next
+    chained_put net k c.in-Some.leg c.args.heads.now c.args.nexts.now c.put_leg.new.heads c.put_leg.new.nexts (record { there = t; start_below = s; end_below = f }) e c.requires.1.0 c.requires.1.1
+    c.put_leg.ensures.heads c.put_leg.ensures.next

@@ -12,7 +12,7 @@ pub loop-number-preserved : goal.loop-number-preserved
 loop-number-preserved g c =
     let net = g.N.Network.meaning c.args.net.now in
     let e : suc c.loop-number.number ≡ c.loop-number.number + 1 = omega arith in
-    (c.loop-number.invariant.0, subst (λ m. Chained net m c.link-leg.new.heads c.link-leg.new.nexts) e (c.link-leg.ensures c.loop-number.invariant.1))
+    (c.loop-number.invariant.0, subst (λ m. Chained net m c.link_leg.new.heads c.link_leg.new.nexts) e (c.link_leg.ensures c.loop-number.invariant.1))
 
 pub returns : goal.returns
 returns g c =

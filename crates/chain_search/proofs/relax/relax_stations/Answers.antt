@@ -12,7 +12,7 @@ loop-station-init g c =
 pub loop-station-preserved : goal.loop-station-preserved
 loop-station-preserved g c =
     let net = g.N.Network.meaning c.args.net.now in
-    (c.loop-station.invariant.0, sweeps_more g.C.Cost.group g.C.Cost.worth g.C.Cost.size (λ d k l x. g.C.Cost.worth (g.F.Fees.cost c.args.fees.now d k l x)) net c.args.plan.now c.loop-station.station c.args.labels.now c.loop-station.labels c.relax-station.new.labels c.loop-station.invariant.1 c.relax-station.ensures)
+    (c.loop-station.invariant.0, sweeps_more g.C.Cost.group g.C.Cost.worth g.C.Cost.size (λ d k l x. g.C.Cost.worth (g.F.Fees.cost c.args.fees.now d k l x)) net c.args.plan.now c.loop-station.station c.args.labels.now c.loop-station.labels c.relax_station.new.labels c.loop-station.invariant.1 c.relax_station.ensures)
 
 pub returns : goal.returns
 returns g c =

@@ -3,8 +3,8 @@ use Rattle.std.proofs.lemmas.Int.{to_z-of_z}
 use Rattle.network.proofs.Places.{get_or_none, get_or_some}
 use Rattle.checks.proofs.judging.balance_of.Goals as goal
 
-pub returns-in-default : goal.returns-in-default
-returns-in-default g c = sym (get_or_none (g.N.Network.meaning c.args.net.now).balances c.args.station (pos 0) (sym c.in-default.ensures))
+pub returns-in_default : goal.returns-in_default
+returns-in_default g c = sym (get_or_none (g.N.Network.meaning c.args.net.now).balances c.args.station (pos 0) (sym c.in_default.ensures))
 
 pub returns : goal.returns
 returns g c =

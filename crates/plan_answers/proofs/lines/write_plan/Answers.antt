@@ -4,5 +4,5 @@ use Rattle.plan_answers.proofs.lines.write_plan.Goals as goal
 
 pub returns : goal.returns
 returns g c =
-    plan_added c.write-legs.result (string_bytes c.args.out.now) _ (string_bytes c.write-legs.new.out) _ _
-    c.in-ok-writeln.ensures.bytes c.write-legs.ensures
+    plan_added c.write_legs.result (string_bytes c.args.out.now) _ (string_bytes c.write_legs.new.out) _ _
+    c.in_ok-writeln.ensures.bytes c.write_legs.ensures

@@ -13,7 +13,7 @@ loop-target-preserved g c =
       c.send.ensures.plan_long ∙ i.0,
       c.send.ensures.left_long ∙ i.1,
       λ f z s e t o.
-          subst (λ r. Sending net c.args.standing.now c.args.labels.now c.args.over c.args.plan.now (c.loop-target.target + 1) r c.send.new.plan c.send.new.left) (sym c.saturating-sub-over.ensures)
+          subst (λ r. Sending net c.args.standing.now c.args.labels.now c.args.over c.args.plan.now (c.loop-target.target + 1) r c.send.new.plan c.send.new.left) (sym c.saturating_sub-over.ensures)
           (sending_more net c.args.standing.now c.args.labels.now c.args.over c.args.plan.now f z s c.loop-target.target c.loop-target.over c.send.result c.loop-target.plan c.send.new.plan c.loop-target.left c.send.new.left
           (omega (arith, c.stations-target-end.ensures, c.loop-target-test.true)) e c.send.ensures (i.2 f z s e t o)),
     )

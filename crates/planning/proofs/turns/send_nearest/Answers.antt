@@ -14,6 +14,6 @@ loop-turn-preserved g c =
       c.send.ensures.plan_long ∙ i.0,
       c.send.ensures.left_long ∙ i.1,
       λ f z e t o.
-          subst (λ r. SentSome net c.args.standing.now c.args.labels.now c.args.over r c.args.plan.now c.send.new.plan c.args.left.now c.send.new.left) (sym c.saturating-sub-over.ensures)
+          subst (λ r. SentSome net c.args.standing.now c.args.labels.now c.args.over r c.args.plan.now c.send.new.plan c.args.left.now c.send.new.left) (sym c.saturating_sub-over.ensures)
           (some_more net c.args.standing.now c.args.labels.now c.args.over c.args.plan.now f z _ c.loop-turn.over c.send.result c.loop-turn.plan c.send.new.plan c.args.left.now c.loop-turn.left c.send.new.left c.send.ensures (i.2 f z e t o)),
     )

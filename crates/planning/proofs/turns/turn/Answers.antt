@@ -15,21 +15,21 @@ returns-in-Settled g c =
     let standing = c.args.standing.now in
     let plan = c.args.plan.now in
     let left = c.args.left.now in
-    let marks = c.mark-over.new.marks in
+    let marks = c.mark_over.new.marks in
     let ls = c.search.new.labels in
-    let m : Marks (stations net) left marks = subst (λ n. Marks n left marks) c.stations.ensures c.mark-over.ensures.1 in
+    let m : Marks (stations net) left marks = subst (λ n. Marks n left marks) c.stations.ensures c.mark_over.ensures.1 in
     let z : Answer both_group worth_of net plan (both_worth standing) (λ v. get_or marks v false) Settled ls =
     subst (λ o. Answer both_group worth_of net plan (both_worth standing) (λ v. get_or marks v false) o ls) c.in-Settled.is c.in-Ok.ensures.2 in
     let u = c.requires.1.1.0 in
-    turned net standing plan left c.args.over u marks m ls z c.requires.1.0 c.requires.1.1.1 c.send-round.result c.send-round.new.plan c.send-round.new.left
-    (c.send-round.ensures.2 (λ v. get_or marks v false) z (starts_over net standing plan left c.args.over u marks m) u.one_each u.tracks u.over_all)
+    turned net standing plan left c.args.over u marks m ls z c.requires.1.0 c.requires.1.1.1 c.send_round.result c.send_round.new.plan c.send_round.new.left
+    (c.send_round.ensures.2 (λ v. get_or marks v false) z (starts_over net standing plan left c.args.over u marks m) u.one_each u.tracks u.over_all)
 
 pub returns-in-RoundTrip : goal.returns-in-RoundTrip
 returns-in-RoundTrip g c =
     let net = g.N.Network.meaning c.args.net.now in
     let standing = c.args.standing.now in
     let plan = c.args.plan.now in
-    let marks = c.mark-over.new.marks in
+    let marks = c.mark_over.new.marks in
     let ls = c.search.new.labels in
     let z : Answer both_group worth_of net plan (both_worth standing) (λ v. get_or marks v false) RoundTrip ls =
     subst (λ o. Answer both_group worth_of net plan (both_worth standing) (λ v. get_or marks v false) o ls) c.in-RoundTrip.is c.in-Ok.ensures.2 in

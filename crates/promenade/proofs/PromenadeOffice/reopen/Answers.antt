@@ -5,7 +5,7 @@ use Rattle.promenade.proofs.PromenadeOffice.reopen.Goals as goal
 
 pub returns : goal.returns
 returns c =
-    let e = c.in-ok-check-mark.ensures in
+    let e = c.in_ok-check_mark.ensures in
     let l : c.args.leg < length c.args.self.now.marks = search rules in
     let s = c.args.self.now in
     record { answer = (e, mark_writes s.stations s.capacity s.charge s.balances s.marks c.args.leg Open e l); kept = tt }

@@ -7,6 +7,6 @@ use Rattle.promenade.proofs.PromenadeOffice.report.Goals as goal
 pub returns : goal.returns
 returns c =
     let e : report_fault c.args.self.now.stations c.args.station c.args.balance ≡ None =
-    sym (ap (report_fault c.args.self.now.stations c.args.station) (to_z-of_z w32 c.args.balance c.ranges.balance)) ∙ c.in-ok-check-report.ensures in
+    sym (ap (report_fault c.args.self.now.stations c.args.station) (to_z-of_z w32 c.args.balance c.ranges.balance)) ∙ c.in_ok-check_report.ensures in
     let l : c.args.station < length c.args.self.now.balances = search rules in
     record { answer = (e, report_writes _ _ _ _ _ c.args.station c.args.balance e l c.ranges.balance); kept = tt }

@@ -6,17 +6,17 @@ use Rattle.plans.specs.Plans.{leg_at, amount, in_force}
 use Rattle.pushing.specs.Routes.{Steps}
 use Rattle.pushing.proofs.pushes.push_step.Goals as goal
 
-pub returns-in-default : goal.returns-in-default
-returns-in-default g c =
+pub returns-in_default : goal.returns-in_default
+returns-in_default g c =
     let net = g.N.Network.meaning c.args.net.now in
     let plan = c.args.plan.now in
-    subst (λ l. Steps net c.args.bikes l None plan plan) (sym c.in-Forth.is) (inr (nth_none net.legs c.in-Forth.number (sym c.in-default.ensures), refl, refl))
+    subst (λ l. Steps net c.args.bikes l None plan plan) (sym c.in-Forth.is) (inr (nth_none net.legs c.in-Forth.number (sym c.in_default.ensures), refl, refl))
 
-pub returns-in-default-leg : goal.returns-in-default-leg
-returns-in-default-leg g c =
+pub returns-in_default-leg : goal.returns-in_default-leg
+returns-in_default-leg g c =
     let net = g.N.Network.meaning c.args.net.now in
     let plan = c.args.plan.now in
-    subst (λ l. Steps net c.args.bikes l None plan plan) (sym c.in-Back.is) (inr (nth_none net.legs c.in-Back.number (sym c.in-default-leg.ensures), refl, refl))
+    subst (λ l. Steps net c.args.bikes l None plan plan) (sym c.in-Back.is) (inr (nth_none net.legs c.in-Back.number (sym c.in_default-leg.ensures), refl, refl))
 
 pub returns-in-Some : goal.returns-in-Some
 returns-in-Some g c =

@@ -5,10 +5,10 @@ use Rattle.plans.specs.Plans.{leg_at, stations}
 use Rattle.pushing.proofs.quotes.joined_leg.Goals as goal
 use Rattle.pushing.proofs.quotes.joined_leg.Goals.{then-leg-stations-via-then-leg-stations, then-leg-stations-via-else-leg-stations+then-leg-stations-2}
 
-pub returns-in-default : goal.returns-in-default
-returns-in-default g c =
+pub returns-in_default : goal.returns-in_default
+returns-in_default g c =
     let net = g.N.Network.meaning c.args.net.now in
-    let h : length net.legs ≤ c.args.number = nth_none net.legs c.args.number (sym c.in-default.ensures) in
+    let h : length net.legs ≤ c.args.number = nth_none net.legs c.args.number (sym c.in_default.ensures) in
     λ j. omega (arith, j.there)
 
 pub returns-then-leg-stations : goal.returns-then-leg-stations

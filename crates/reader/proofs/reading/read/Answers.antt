@@ -5,24 +5,24 @@ use Rattle.reader.specs.Entering.{room_of}
 use Rattle.reader.proofs.Whole.{Due, due_refused, due_accepted, exactly_due, filled_handed}
 use Rattle.reader.proofs.reading.read.Goals as goal
 
-pub returns-then-is-err : goal.returns-then-is-err
-returns-then-is-err c =
+pub returns-then-is_err : goal.returns-then-is_err
+returns-then-is_err c =
     let text = c.args.text.now in
     let legs = c.args.legs.now in
     let stations = c.args.stations.now in
-    let filled = filled_handed text _ _ _ _ (length legs) _ (length stations) c.clear-legs.auto.legs c.clear-stations.auto.stations c.fill-answer.ensures in
-    let due : Due c.fill-answer.result (reading (room_of legs stations) text) c.clear-legs-then-is-err.new.legs c.clear-stations-then-is-err.new.stations (length legs) (length stations) =
-    due_refused c.fill-answer.result _ _ _ _ _ (length legs) (length stations) (sym c.is-err.ensures.value ∙ c.if-is-err.true) filled
-    (c.clear-legs-then-is-err.ensures ∙ ap (λ n. replicate n cleared_leg) (c.fill-answer.auto.legs ∙ c.clear-legs.auto.legs))
-    (c.clear-stations-then-is-err.ensures ∙ ap (λ n. replicate n cleared_station) (c.fill-answer.auto.stations ∙ c.clear-stations.auto.stations)) in
+    let filled = filled_handed text _ _ _ _ (length legs) _ (length stations) c.clear_legs.auto.legs c.clear_stations.auto.stations c.fill-answer.ensures in
+    let due : Due c.fill-answer.result (reading (room_of legs stations) text) c.clear_legs-then-is_err.new.legs c.clear_stations-then-is_err.new.stations (length legs) (length stations) =
+    due_refused c.fill-answer.result _ _ _ _ _ (length legs) (length stations) (sym c.is_err.ensures.value ∙ c.if-is_err.true) filled
+    (c.clear_legs-then-is_err.ensures ∙ ap (λ n. replicate n cleared_leg) (c.fill-answer.auto.legs ∙ c.clear_legs.auto.legs))
+    (c.clear_stations-then-is_err.ensures ∙ ap (λ n. replicate n cleared_station) (c.fill-answer.auto.stations ∙ c.clear_stations.auto.stations)) in
     record { answer = due.answer; legs = due.legs_are; stations = due.stations_are; exactly = exactly_due text (room_of legs stations) _ _ _ due }
 
-pub returns-else-is-err : goal.returns-else-is-err
-returns-else-is-err c =
+pub returns-else-is_err : goal.returns-else-is_err
+returns-else-is_err c =
     let text = c.args.text.now in
     let legs = c.args.legs.now in
     let stations = c.args.stations.now in
-    let filled = filled_handed text _ _ _ _ (length legs) _ (length stations) c.clear-legs.auto.legs c.clear-stations.auto.stations c.fill-answer.ensures in
+    let filled = filled_handed text _ _ _ _ (length legs) _ (length stations) c.clear_legs.auto.legs c.clear_stations.auto.stations c.fill-answer.ensures in
     let due : Due c.fill-answer.result (reading (room_of legs stations) text) c.fill-answer.new.legs c.fill-answer.new.stations (length legs) (length stations) =
-    due_accepted c.fill-answer.result _ _ _ (length legs) (length stations) (sym c.is-err.ensures.value ∙ c.if-is-err.false) filled in
+    due_accepted c.fill-answer.result _ _ _ (length legs) (length stations) (sym c.is_err.ensures.value ∙ c.if-is_err.false) filled in
     record { answer = due.answer; legs = due.legs_are; stations = due.stations_are; exactly = exactly_due text (room_of legs stations) _ _ _ due }

@@ -7,9 +7,9 @@ pub returns : goal.returns
 returns c =
     let text = c.args.text.now in
     let place = c.args.place in
-    let r = c.row-length-row.result in
+    let r = c.row_length-row.result in
     record {
-      line = c.scan.ensures.found ∙ ap scan (row_taken text place r c.row-length-row.ensures.row);
+      line = c.scan.ensures.found ∙ ap scan (row_taken text place r c.row_length-row.ensures.row);
       next = c.min.ensures
-          ∙ ap (λ n. min (length text) (place + n + 1)) (sym (row_long text place r c.row-length-row.ensures.row c.row-length-row.ensures.within));
+          ∙ ap (λ n. min (length text) (place + n + 1)) (sym (row_long text place r c.row_length-row.ensures.row c.row_length-row.ensures.within));
     }

@@ -6,9 +6,9 @@ pub returns-then-amount-eq0 : goal.returns-then-amount-eq0
 returns-then-amount-eq0 g c =
     back_empty g.C.Cost.group g.C.Cost.worth g.C.Cost.size (λ d k l x. g.C.Cost.worth (g.F.Fees.cost c.args.fees.now d k l x)) c.args.number c.args.leg c.args.amount c.args.labels.now (omega arith)
 
-pub returns-in-default : goal.returns-in-default
-returns-in-default g c =
-    back_stale g.C.Cost.group g.C.Cost.worth g.C.Cost.size (λ d k l x. g.C.Cost.worth (g.F.Fees.cost c.args.fees.now d k l x)) c.args.number c.args.leg c.args.amount c.args.labels.now (sym c.in-default.ensures)
+pub returns-in_default : goal.returns-in_default
+returns-in_default g c =
+    back_stale g.C.Cost.group g.C.Cost.worth g.C.Cost.size (λ d k l x. g.C.Cost.worth (g.F.Fees.cost c.args.fees.now d k l x)) c.args.number c.args.leg c.args.amount c.args.labels.now (sym c.in_default.ensures)
 
 pub returns : goal.returns
 returns g c =

@@ -6,10 +6,10 @@ use Rattle.search.proofs.Sweeping.{leg_void, leg_relaxed}
 use Rattle.search.proofs.relax.relax_leg.Goals as goal
 use Rattle.search.proofs.relax.relax_leg.Goals.{then-leg-stations-via-then-leg-stations, then-leg-stations-via-else-leg-stations+then-leg-stations-2}
 
-pub returns-in-default : goal.returns-in-default
-returns-in-default g c =
+pub returns-in_default : goal.returns-in_default
+returns-in_default g c =
     let net = g.N.Network.meaning c.args.net.now in
-    let h : length net.legs ≤ c.args.number = nth_none net.legs c.args.number (sym c.in-default.ensures) in
+    let h : length net.legs ≤ c.args.number = nth_none net.legs c.args.number (sym c.in_default.ensures) in
     leg_void g.C.Cost.group g.C.Cost.worth g.C.Cost.size (λ d k l x. g.C.Cost.worth (g.F.Fees.cost c.args.fees.now d k l x)) net c.args.plan.now c.args.number c.args.labels.now (λ j. omega (arith, j.there))
 
 pub returns-then-leg-stations : goal.returns-then-leg-stations
@@ -29,5 +29,5 @@ returns g c =
     let t : c.args.number < length net.legs = nth_some net.legs c.args.number c.in-Some.leg (sym c.in-Some.ensures) in
     let s : (leg_at net c.args.number).start < stations net = omega (arith, c.if-leg-stations.false, c.stations-stations.ensures, ap (λ l. l.start) e) in
     let f : (leg_at net c.args.number).end < stations net = omega (arith, c.if-leg-stations-2.false, c.stations-stations.ensures, ap (λ l. l.end) e) in
-    leg_relaxed g.C.Cost.group g.C.Cost.worth g.C.Cost.size (λ d k l x. g.C.Cost.worth (g.F.Fees.cost c.args.fees.now d k l x)) net c.args.plan.now c.args.number c.in-Some.leg c.amount-at-amount.result
-    c.args.labels.now c.relax-forth.new.labels c.relax-back.new.labels (record { there = t; start_below = s; end_below = f }) e (sym c.amount-at-amount.ensures) c.relax-forth.ensures c.relax-back.ensures
+    leg_relaxed g.C.Cost.group g.C.Cost.worth g.C.Cost.size (λ d k l x. g.C.Cost.worth (g.F.Fees.cost c.args.fees.now d k l x)) net c.args.plan.now c.args.number c.in-Some.leg c.amount_at-amount.result
+    c.args.labels.now c.relax_forth.new.labels c.relax_back.new.labels (record { there = t; start_below = s; end_below = f }) e (sym c.amount_at-amount.ensures) c.relax_forth.ensures c.relax_back.ensures

@@ -11,7 +11,7 @@ loop-number-preserved g c =
       c.loop-number.invariant.0,
       λ old s.
           sweep_at g.C.Cost.group g.C.Cost.worth g.C.Cost.size (stations net) (Over net c.args.plan.now (paid (λ d k l x. g.C.Cost.worth (g.F.Fees.cost c.args.fees.now d k l x)) net c.args.plan.now))
-          (suc c.loop-number.number + suc c.loop-number.number) _ old _ (omega arith) (c.relax-leg.ensures old (c.loop-number.invariant.1 old s)),
+          (suc c.loop-number.number + suc c.loop-number.number) _ old _ (omega arith) (c.relax_leg.ensures old (c.loop-number.invariant.1 old s)),
     )
 
 pub returns : goal.returns

@@ -12,9 +12,9 @@ loop-station-preserved g c =
     let z = c.zero-zero.result in
     let i = c.loop-station.station in
     let ls = c.loop-station.labels in
-    let e : c.put-label.new.labels ≡ set ls i (begun (f i) z) =
-    c.put-label.ensures ∙ ap (set ls i) (c.first-label.ensures ∙ ap (λ t. begun t z) c.is-start.ensures) in
-    beginning_more c.args.stations i f z c.args.labels.now ls c.put-label.new.labels (omega arith) (omega (arith, c.requires)) e c.loop-station.invariant
+    let e : c.put_label.new.labels ≡ set ls i (begun (f i) z) =
+    c.put_label.ensures ∙ ap (set ls i) (c.first_label.ensures ∙ ap (λ t. begun t z) c.is_start.ensures) in
+    beginning_more c.args.stations i f z c.args.labels.now ls c.put_label.new.labels (omega arith) (omega (arith, c.requires)) e c.loop-station.invariant
 
 pub returns : goal.returns
 returns g c =

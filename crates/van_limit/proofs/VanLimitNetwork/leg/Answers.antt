@@ -4,10 +4,10 @@ use Rattle.network.proofs.Places.{nth_map}
 use Rattle.van_limit.specs.Limited.{limit_leg}
 use Rattle.van_limit.proofs.VanLimitNetwork.leg.Goals as goal
 
-pub returns-in-default : goal.returns-in-default
-returns-in-default g c =
+pub returns-in_default : goal.returns-in_default
+returns-in_default g c =
     let f = limit_leg c.args.self.now.limit in
-    sym (nth_map f _ c.args.number ∙ ap (option_map f) (sym c.in-default.ensures))
+    sym (nth_map f _ c.args.number ∙ ap (option_map f) (sym c.in_default.ensures))
 
 pub returns : goal.returns
 returns g c =

@@ -4,10 +4,10 @@ use Rattle.network.proofs.Places.{nth_none}
 use Rattle.yard.proofs.Answered.{balance_below}
 use Rattle.yard.proofs.YardNetwork.balance.Goals as goal
 
-pub balance-above-requires : goal.balance-above-requires
-balance-above-requires g c =
+pub balance_above-requires : goal.balance_above-requires
+balance_above-requires g c =
     let n = g.N.Network.meaning c.args.self.now.below in
-    nth_none n.balances c.args.station (sym c.in-default.ensures)
+    nth_none n.balances c.args.station (sym c.in_default.ensures)
 
 pub returns : goal.returns
 returns g c =

@@ -2,15 +2,15 @@ use Rattle.std.proofs.Common.{ℕ, ◌+◌, ◌*◌, length, ap, ◌∙◌}
 use Rattle.yard.proofs.Answered.{at_counts, legs_room, legs_without}
 use Rattle.yard.proofs.YardNetwork.legs.Goals as goal
 
-pub returns-then-is-full : goal.returns-then-is-full
-returns-then-is-full g c =
+pub returns-then-is_full : goal.returns-then-is_full
+returns-then-is_full g c =
     let n = g.N.Network.meaning c.args.self.now.below in
     c.legs-legs.ensures
-    ∙ legs_without c.args.self.now.charge n (at_counts _ _ _ n c.stations-stations.ensures c.legs-legs.ensures c.if-is-full.ensures)
+    ∙ legs_without c.args.self.now.charge n (at_counts _ _ _ n c.stations-stations.ensures c.legs-legs.ensures c.if-is_full.ensures)
 
-pub returns-else-is-full : goal.returns-else-is-full
-returns-else-is-full g c =
+pub returns-else-is_full : goal.returns-else-is_full
+returns-else-is_full g c =
     let n = g.N.Network.meaning c.args.self.now.below in
     ap (λ (x : ℕ). x + 2 * c.stations-stations.result) c.legs-legs.ensures
     ∙ ap (λ (x : ℕ). length n.legs + 2 * x) c.stations-stations.ensures
-    ∙ legs_room c.args.self.now.charge n (at_counts _ _ _ n c.stations-stations.ensures c.legs-legs.ensures c.if-is-full.ensures)
+    ∙ legs_room c.args.self.now.charge n (at_counts _ _ _ n c.stations-stations.ensures c.legs-legs.ensures c.if-is_full.ensures)

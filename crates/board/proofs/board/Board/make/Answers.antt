@@ -26,19 +26,19 @@ returns g c =
         kept = subst (λ (b : Board g.row.N.Denot). g.N.Office.kept c.args.self.now.net b.net) (sym w.self-is) w.reopen.ensures.kept;
       }
       | goal.in-Plan w ↦ record {
-        rules = move_rules (plan_named w.in-Plan.prices w.in-Plan.cut w.in-Plan.station-entries w.in-Plan.leg-entries w.in-Plan.is c.requires.prices c.requires.numbers) w.result-is (same_papers w.prices-is w.numbers-is) (ap seen w.self-is) w.make-plan.ensures.rules;
-        hands = hands_plan c.args.amounts.now w.result-is (ap (λ (b : Board g.row.N.Denot). (seen b).plan) w.self-is) w.amounts-is w.make-plan.ensures.hands;
-        kept = stays c.match-call.self.net (ap (λ (b : Board g.row.N.Denot). b.net) w.self-is ∙ w.make-plan.ensures.net);
+        rules = move_rules (plan_named w.in-Plan.prices w.in-Plan.cut w.in-Plan.station_entries w.in-Plan.leg_entries w.in-Plan.is c.requires.prices c.requires.numbers) w.result-is (same_papers w.prices-is w.numbers-is) (ap seen w.self-is) w.make_plan.ensures.rules;
+        hands = hands_plan c.args.amounts.now w.result-is (ap (λ (b : Board g.row.N.Denot). (seen b).plan) w.self-is) w.amounts-is w.make_plan.ensures.hands;
+        kept = stays c.match-call.self.net (ap (λ (b : Board g.row.N.Denot). b.net) w.self-is ∙ w.make_plan.ensures.net);
       }
       | goal.in-ListStations w ↦ record {
-        rules = move_rules (stations_named w.in-ListStations.length w.in-ListStations.is c.requires.numbers) (w.result-is ∙ w.listed.ensures) (same_papers w.prices-is w.numbers-is) (ap seen w.self-is) (w.list-stations.ensures.rules c.args.prices.now);
-        hands = hands_listed w.list-stations.result _ _ _ (w.result-is ∙ w.listed.ensures) w.amounts-is;
-        kept = stays c.match-call.self.net (ap (λ (b : Board g.row.N.Denot). b.net) w.self-is ∙ w.list-stations.ensures.net);
+        rules = move_rules (stations_named w.in-ListStations.length w.in-ListStations.is c.requires.numbers) (w.result-is ∙ w.listed.ensures) (same_papers w.prices-is w.numbers-is) (ap seen w.self-is) (w.list_stations.ensures.rules c.args.prices.now);
+        hands = hands_listed w.list_stations.result _ _ _ (w.result-is ∙ w.listed.ensures) w.amounts-is;
+        kept = stays c.match-call.self.net (ap (λ (b : Board g.row.N.Denot). b.net) w.self-is ∙ w.list_stations.ensures.net);
       }
       | goal.in-ListRuns w ↦ record {
-        rules = move_rules (runs_named w.in-ListRuns.length w.in-ListRuns.is c.requires.numbers) (w.result-is ∙ w.listed-in-ListRuns.ensures) (same_papers w.prices-is w.numbers-is) (ap seen w.self-is) (w.list-runs.ensures.rules c.args.prices.now);
-        hands = hands_listed w.list-runs.result _ _ _ (w.result-is ∙ w.listed-in-ListRuns.ensures) w.amounts-is;
-        kept = stays c.match-call.self.net (ap (λ (b : Board g.row.N.Denot). b.net) w.self-is ∙ w.list-runs.ensures.net);
+        rules = move_rules (runs_named w.in-ListRuns.length w.in-ListRuns.is c.requires.numbers) (w.result-is ∙ w.listed-in-ListRuns.ensures) (same_papers w.prices-is w.numbers-is) (ap seen w.self-is) (w.list_runs.ensures.rules c.args.prices.now);
+        hands = hands_listed w.list_runs.result _ _ _ (w.result-is ∙ w.listed-in-ListRuns.ensures) w.amounts-is;
+        kept = stays c.match-call.self.net (ap (λ (b : Board g.row.N.Denot). b.net) w.self-is ∙ w.list_runs.ensures.net);
       }
       | goal.in-Read w ↦ record {
         rules = move_rules w.in-Read.is w.result-is (same_papers w.prices-is w.numbers-is) (ap seen w.self-is) (w.read.ensures (papers c.args.prices.now c.args.numbers.now));

@@ -9,4 +9,4 @@ returns g c =
     let room : length c.args.calls.now ≤ length c.args.answers.now = search rules in
     let fits : Fits (length (g.N.Network.meaning c.args.self.now.net).legs) c.args.calls.now (length c.args.calls.now)
     (given (lending c.args.prices.now c.args.numbers.now c.args.amounts.now) (lengths_of c.args.prices.now c.args.numbers.now c.args.tables.amounts.now c.args.tables.labels.now c.args.tables.cents.now c.args.tables.heads.now c.args.tables.left.now c.args.tables.marks.now c.args.tables.nexts.now)) = search rules in
-    record { ran = ran_all _ _ _ _ _ _ _ _ _ room fits c.make-all.ensures.all; kept = c.make-all.ensures.kept }
+    record { ran = ran_all _ _ _ _ _ _ _ _ _ room fits c.make_all.ensures.all; kept = c.make_all.ensures.kept }

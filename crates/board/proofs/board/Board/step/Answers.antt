@@ -8,10 +8,10 @@ pub returns : goal.returns
 returns g c =
     let m = length (g.N.Network.meaning c.args.self.now.net).legs in
     let at = c.args.at.now in
-    let taken = c.entries-of-taken.result in
-    let i : taken.prices ≡ prices_long c.args.call = ap (λ (e : Entries). e.prices) c.entries-of-taken.ensures in
-    let j : taken.numbers ≡ numbers_long c.args.call = ap (λ (e : Entries). e.numbers) c.entries-of-taken.ensures in
-    let k : taken.amounts ≡ amounts_long m c.args.call = ap (λ (e : Entries). e.amounts) c.entries-of-taken.ensures ∙ ap (λ (z : ℕ). amounts_long z c.args.call) c.legs.ensures in
+    let taken = c.entries_of-taken.result in
+    let i : taken.prices ≡ prices_long c.args.call = ap (λ (e : Entries). e.prices) c.entries_of-taken.ensures in
+    let j : taken.numbers ≡ numbers_long c.args.call = ap (λ (e : Entries). e.numbers) c.entries_of-taken.ensures in
+    let k : taken.amounts ≡ amounts_long m c.args.call = ap (λ (e : Entries). e.amounts) c.entries_of-taken.ensures ∙ ap (λ (z : ℕ). amounts_long z c.args.call) c.legs.ensures in
     record {
       makes = stepped m c.args.call c.make-answer.result _ _ at.prices at.numbers at.amounts _ _ _ c.args.prices.now c.make-answer.new.prices c.args.numbers.now c.make-answer.new.numbers c.args.amounts.now c.make-answer.new.amounts
           (back at.prices i) (back at.numbers j) (back at.amounts k) (within at.prices i c.requires.prices) (within at.numbers j c.requires.numbers) (within at.amounts k c.requires.amounts)

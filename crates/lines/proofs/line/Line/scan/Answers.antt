@@ -5,6 +5,6 @@ use Rattle.lines.proofs.line.Line.scan.Goals as goal
 pub returns : goal.returns
 returns c =
     record {
-      found = c.by-letter.ensures;
-      spelled = rw c.by-letter.ensures (spells c.args.s.now);
+      found = c.by_letter.ensures;
+      spelled = rw c.by_letter.ensures (spells c.args.s.now);
     }
