@@ -1,4 +1,6 @@
 // Writing a network as its canonical text.
+#![tactic(auto)]
+
 ghost use Rattle.std.specs.Prelude.{◌≡◌, ◌+◌, ◌++◌, map, pos, IfOk, string_bytes, Decides, OnOk};
 ghost use Rattle.std.specs.List.{flat_map};
 ghost use Rattle.writer.specs.Canonical.{problem_line, node_line, node_lines, arc_line, ended, canonical, ReadBack};
