@@ -1,4 +1,4 @@
-use Rattle.std.proofs.Common.{◌≡◌, ◌≤◌, true, length, refl, ap, ◌∙◌, subst, arith}
+use Rattle.std.proofs.Common.{true, refl, subst, arith}
 use Rattle.theory.specs.Groups.{whole}
 use Rattle.plans.specs.Plans.{stations}
 use Rattle.costs.specs.declared.cents.Cents.{Cents}
