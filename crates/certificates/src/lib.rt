@@ -1,4 +1,6 @@
 // What a planner by repeated cheapest walks rests on: each theorem is the promise of one function.
+#![tactic(auto)]
+
 ghost use Rattle.certificates.specs.Theorems.{BalancesTotal, FirstIsCertified, LabelsExtend, LeftOversSum, NoRoundTrip, NoneOverObeys, NothingLeftObeys, PushKeepsCertificate, PushLowersOver, PushMovesEnds, PushesJoin, RoomsSuffice};
 
 // Bikes sent along a tight residual step, not past the standing amount, leave the certificate as it is.

@@ -1,7 +1,7 @@
 -- A network and a standing plan as arcs of the theory, whose fee is the pair of cents and difference.
 use Rattle.std.proofs.Common.{◌≡◌, ℕ, zero, suc, ◌+◌, ◌*◌, ◌<◌, ◌≤◌, Bool, cond, not, ◌&&◌, eqb, ltb, leb, List, [], ◌∷◌, length, get_or, ℤ, pos, negsuc, neg_ℤ, sym, refl, ap, ◌∙◌, arith}
 use borrow.Author.Differences.{ints}
-use Rattle.std.specs.List.{AllByRecursion as All}
+use Rattle.std.specs.List.{AllByRecursion}
 use Rattle.records.specs.Cleared.{cleared_leg}
 use Rattle.records.specs.declared.leg.Leg.{Leg}
 use Rattle.theory.specs.Groups.{two}
@@ -39,12 +39,12 @@ one_more charge s x = two (omega (arith, ints)) (grind (arith, ints))
 pub one_less : (charge s j : ℕ) → both_group.add (leg_fee charge s j) (both_group.neg (leg_fee charge s (suc j))) ≡ (neg_ℤ (pos charge), cond (ltb s (suc j)) (negsuc 0) (pos 1))
 one_less charge s j = two (omega (arith, ints)) (grind (arith, ints))
 
-pub curved : (ls : List Leg) (s : ℕ → ℕ) → All (λ a. Convex both_group a.fee) (arcs ls s)
+pub curved : (ls : List Leg) (s : ℕ → ℕ) → AllByRecursion (λ a. Convex both_group a.fee) (arcs ls s)
 curved [] s = tt
 curved (l ∷ ls) s = (bends l.charge (s 0), curved ls (λ k. s (suc k)))
 
 -- ---- from the legs by number to the arcs one by one
-pub each : (P : Arc (ℤ × ℤ) → Type 0) (ls : List Leg) (s : ℕ → ℕ) → ((k : ℕ) → k < length ls → P (arc (get_or ls k cleared_leg) (s k))) → All P (arcs ls s)
+pub each : (P : Arc (ℤ × ℤ) → Type 0) (ls : List Leg) (s : ℕ → ℕ) → ((k : ℕ) → k < length ls → P (arc (get_or ls k cleared_leg) (s k))) → AllByRecursion P (arcs ls s)
 each P [] s h = tt
 each P (l ∷ ls) s h = (h 0 (omega arith), each P ls (λ k. s (suc k)) (λ k i. h (suc k) (omega arith)))
 
@@ -98,7 +98,7 @@ leaving_legs S (l ∷ ls) s =
 pub outward_is : (net : Net) (standing vs : List ℕ) → outward (λ v. among v vs) (arcs_of net standing) ≡ leaving net vs
 outward_is net standing vs = leaving_legs (λ v. among v vs) net.legs (amount standing)
 
-pub placed : (net : Net) (standing : List ℕ) → EndsBelow net → All (λ a. (a.from < stations net) × (a.to < stations net)) (arcs_of net standing)
+pub placed : (net : Net) (standing : List ℕ) → EndsBelow net → AllByRecursion (λ a. (a.from < stations net) × (a.to < stations net)) (arcs_of net standing)
 placed net standing h = each (λ a. (a.from < stations net) × (a.to < stations net)) net.legs (amount standing) h
 
 pub joined : (net : Net) → EndsBelow net → (k : ℕ) → k < length net.legs → Joined net k

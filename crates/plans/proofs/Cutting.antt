@@ -1,7 +1,7 @@
 -- A cut excludes every plan; stations that no residual step leaves, with bikes left over, are a cut.
-use Rattle.std.proofs.Common.{◌≡◌, ℕ, suc, ◌<◌, ◌≤◌, Bool, true, List, [], ◌∷◌, length, get_or, ℤ, pos, ◌-ℤ◌, ◌≤ℤ◌, ◌<ℤ◌, sym, refl, ap, ◌∙◌, inl, inr, arith}
+use Rattle.std.proofs.Common.{◌≡◌, ℕ, suc, ◌<◌, Bool, true, List, [], ◌∷◌, length, get_or, ℤ, pos, ◌-ℤ◌, ◌≤ℤ◌, ◌<ℤ◌, sym, refl, ap, ◌∙◌, inl, inr, arith}
 use borrow.Author.Differences.{ints}
-use Rattle.std.specs.List.{AllByRecursion as All}
+use Rattle.std.specs.List.{AllByRecursion}
 use Rattle.std.proofs.lemmas.Bool.{both_ways, cases_lt}
 use Rattle.records.specs.Cleared.{cleared_leg}
 use Rattle.records.specs.declared.leg.Leg.{Leg}
@@ -15,10 +15,10 @@ use Rattle.plans.specs.Cuts.{among, sum_over, leaving, Cut, left_over, Uncrossed
 use Rattle.plans.proofs.Sums.{owed_same, owed_listed, sum_over_parts, sum_over_some}
 use Rattle.plans.proofs.Arcing.{arc, arcs, arcs_of, each, gathered_out, gathered_in, fits, feasible, outward_is, joined}
 
-starts : (net : Net) → EndsBelow net → All (λ a. a.from < stations net) (arcs_of net [])
+starts : (net : Net) → EndsBelow net → AllByRecursion (λ a. a.from < stations net) (arcs_of net [])
 starts net e = each (λ a. a.from < stations net) net.legs (amount []) (λ k h. (e k h).0)
 
-ends : (net : Net) → EndsBelow net → All (λ a. a.to < stations net) (arcs_of net [])
+ends : (net : Net) → EndsBelow net → AllByRecursion (λ a. a.to < stations net) (arcs_of net [])
 ends net e = each (λ a. a.to < stations net) net.legs (amount []) (λ k h. (e k h).1)
 
 pub excludes : (net : Net) (vs : List ℕ) → EndsBelow net → Cut net vs → (plan : List ℕ) → Obeys net plan → ⊥
@@ -50,7 +50,7 @@ all_full S (l ∷ ls) s (x ∷ xs) h = (h 0 (omega arith), all_full S ls (λ k. 
 abbrev sent : Net → List ℕ → ℕ → ℤ
 sent net plan v = pos (bikes_out net plan v) -ℤ pos (bikes_in net plan v)
 
-sends : {A : Type 0} (net : Net) (plan : List ℕ) (cost : Direction → ℕ → A) (vs : List ℕ) → EndsBelow net → Fits net plan → Distinct vs → All (λ v. v < stations net) vs → Uncrossed net plan cost vs → sum_over (sent net plan) vs ≡ pos (leaving net vs)
+sends : {A : Type 0} (net : Net) (plan : List ℕ) (cost : Direction → ℕ → A) (vs : List ℕ) → EndsBelow net → Fits net plan → Distinct vs → AllByRecursion (λ v. v < stations net) vs → Uncrossed net plan cost vs → sum_over (sent net plan) vs ≡ pos (leaving net vs)
 sends net plan cost vs e f d b u =
     sym (owed_listed (stations net) vs (sent net plan) d b)
     ∙ owed_same (stations net) (λ v. among v vs) (sent net plan) (λ v. pos (gather (λ a. a.from) v (arcs_of net []) plan) -ℤ pos (gather (λ a. a.to) v (arcs_of net []) plan))
@@ -58,7 +58,7 @@ sends net plan cost vs e f d b u =
     ∙ Crossing.sends (stations net) (λ v. among v vs) (arcs_of net []) plan (starts net e) (ends net e) (fits net [] plan f) (all_full (λ v. among v vs) net.legs (amount []) plan (full_at net plan cost vs e u))
     ∙ ap pos (outward_is net [] vs)
 
-pub is_cut : {A : Type 0} (net : Net) (plan : List ℕ) (cost : Direction → ℕ → A) (vs : List ℕ) → EndsBelow net → Fits net plan → Distinct vs → All (λ v. v < stations net) vs → Uncrossed net plan cost vs
+pub is_cut : {A : Type 0} (net : Net) (plan : List ℕ) (cost : Direction → ℕ → A) (vs : List ℕ) → EndsBelow net → Fits net plan → Distinct vs → AllByRecursion (λ v. v < stations net) vs → Uncrossed net plan cost vs
     → ((v : ℕ) → among v vs ≡ true → pos 0 ≤ℤ left_over net plan v) → (w : ℕ) → among w vs ≡ true → pos 0 <ℤ left_over net plan w → Cut net vs
 is_cut net plan cost vs e f d b u h w k p =
     record {

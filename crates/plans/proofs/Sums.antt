@@ -2,7 +2,7 @@
 use Rattle.std.proofs.Common.{◌≡◌, ℕ, zero, suc, ◌+◌, ◌<◌, ◌≤◌, Bool, true, false, cond, ◌||◌, eqb, List, [], ◌∷◌, ℤ, pos, ◌+ℤ◌, ◌-ℤ◌, ◌≤ℤ◌, ◌<ℤ◌, sym, refl, ap, ◌∙◌, arith}
 use native.Mathlib.Decide.{ℕ_discrete}
 use borrow.Author.Differences.{ints}
-use Rattle.std.specs.List.{AllByRecursion as All}
+use Rattle.std.specs.List.{AllByRecursion}
 use Rattle.std.proofs.lemmas.Bool.{eq-eqb, ne_eqb}
 use Rattle.theory.specs.Arcs.{owed}
 use Rattle.theory.specs.Walks.{Absent, Distinct}
@@ -53,7 +53,7 @@ owed_more (suc n) u vs b a h =
     ]
 
 -- a list of different stations below n
-pub owed_listed : (n : ℕ) (vs : List ℕ) (b : ℕ → ℤ) → Distinct vs → All (λ v. v < n) vs → owed n (λ v. among v vs) b ≡ sum_over b vs
+pub owed_listed : (n : ℕ) (vs : List ℕ) (b : ℕ → ℤ) → Distinct vs → AllByRecursion (λ v. v < n) vs → owed n (λ v. among v vs) b ≡ sum_over b vs
 owed_listed n [] b d h = none_owed n b
 owed_listed n (u ∷ us) b d h = owed_more n u us b (absent_among u us d.0) h.0 ∙ ap (λ z. b u +ℤ z) (owed_listed n us b d.1 h.1)
 

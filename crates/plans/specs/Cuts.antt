@@ -3,10 +3,10 @@
 --   sum_over    the sum of f over a list of stations
 --   leaving     what the legs out of a list of stations can carry
 --   Cut         a cut
---   left-over   what a plan leaves over at a station
+--   left_over   what a plan leaves over at a station
 --   Uncrossed   no step leads out of a list of stations
 use Rattle.std.specs.Prelude.{◌≡◌, ℕ, ◌<◌, Bool, true, false, cond, not, ◌&&◌, ◌||◌, List, [], ◌∷◌, length, ℤ, pos, ◌+ℤ◌, ◌-ℤ◌, ◌<ℤ◌, ◌==◌}
-use Rattle.std.specs.List.{AllByRecursion as All}
+use Rattle.std.specs.List.{AllByRecursion}
 use Rattle.network.specs.Nets.{Net}
 use Rattle.theory.specs.Walks.{Distinct}
 use Rattle.plans.specs.Plans.{sum_below, stations, leg_at, balance_at, in_force, bikes_out, bikes_in}
@@ -27,7 +27,7 @@ leaving net vs = sum_below (length net.legs) (λ k. cond (among (leg_at net k).s
 -- different stations whose balances sum to more than can leave them
 pub record Cut (net : Net) (vs : List ℕ) : Type 0 where
   pub different : Distinct vs
-  pub below : All (λ v. v < stations net) vs
+  pub below : AllByRecursion (λ v. v < stations net) vs
   pub over : pos (leaving net vs) <ℤ sum_over (balance_at net) vs
 
 -- the balance less what the plan sends out, net: negative where bikes are lacking

@@ -8,7 +8,7 @@
 --   PricesAreUnique          a station has one price at most
 --   PricesExist              every station has a price, and no walk totals less, where no round trip totals below zero
 use Rattle.std.specs.Prelude.{◌≡◌, ℕ, ◌<◌, true, List, ℤ, pos, ◌+ℤ◌, ◌≤ℤ◌, ◌<ℤ◌}
-use Rattle.std.specs.List.{AllByRecursion as All}
+use Rattle.std.specs.List.{AllByRecursion}
 use Rattle.network.specs.Nets.{Net}
 use Rattle.theory.specs.Walks.{Distinct}
 use Rattle.plans.specs.Plans.{stations, Fits, Obeys, CheapestThenNearest, EndsBelow}
@@ -30,7 +30,7 @@ CutExcludesPlans = (net : Net) (vs : List ℕ) → EndsBelow net → Cut net vs 
 
 abbrev pub UncrossedIsCut : Type 0
 UncrossedIsCut =
-    (net : Net) (plan : List ℕ) (cost : Direction → ℕ → ℤ × ℤ) (vs : List ℕ) → EndsBelow net → Fits net plan → Distinct vs → All (λ v. v < stations net) vs → Uncrossed net plan cost vs
+    (net : Net) (plan : List ℕ) (cost : Direction → ℕ → ℤ × ℤ) (vs : List ℕ) → EndsBelow net → Fits net plan → Distinct vs → AllByRecursion (λ v. v < stations net) vs → Uncrossed net plan cost vs
     → ((v : ℕ) → among v vs ≡ true → pos 0 ≤ℤ left_over net plan v) → (w : ℕ) → among w vs ≡ true → pos 0 <ℤ left_over net plan w → Cut net vs
 
 abbrev pub PricesMeetReducedCost : Type 0

@@ -1,5 +1,7 @@
 // What a plan on a network is, which plan is best, what prices and cuts are, and theorems about them.
 // Each theorem is the promise of one function.
+#![tactic(auto)]
+
 ghost use Rattle.plans.specs.Theorems.{BestHasNoRoundTrip, CertifiedHasNoRoundTrip, CertifiedIsBest, CutExcludesPlans, PricesAreUnique, PricesExist, PricesMeetReducedCost, UncrossedIsCut};
 
 // A plan that obeys is cheapest, then nearest, if no residual step undercuts some potential.

@@ -1,7 +1,7 @@
 -- Sums in an ordered group: regrouping, multiples, sums over stations, and their exchange with sums over legs.
 use Rattle.std.proofs.Common.{◌≡◌, ℕ, zero, suc, ◌+◌, ◌<◌, ◌≤◌, cond, eqb, List, [], ◌∷◌, sym, refl, ap, ◌∙◌, subst, suc-add, zero-add, arith}
 use native.Mathlib.Decide.{dec_lt}
-use Rattle.std.specs.List.{AllByRecursion as All}
+use Rattle.std.specs.List.{AllByRecursion}
 use Rattle.std.proofs.lemmas.Bool.{eq-eqb, ne_eqb}
 use Rattle.theory.specs.Groups.{OrderedGroup, undo}
 use Rattle.theory.specs.Arcs.{gather, times, sum_to, along}
@@ -106,7 +106,7 @@ module _ {A : Type 0} (G : OrderedGroup A) where
       ]
 
   -- ---- the exchange
-  pub exchange : {L : Type 0} (at : L → ℕ) (n : ℕ) (π : ℕ → A) (ls : List L) (xs : List ℕ) → All (λ l. at l < n) ls → sum_to G n (λ v. times G (gather at v ls xs) (π v)) ≡ along G (λ l. π (at l)) ls xs
+  pub exchange : {L : Type 0} (at : L → ℕ) (n : ℕ) (π : ℕ → A) (ls : List L) (xs : List ℕ) → AllByRecursion (λ l. at l < n) ls → sum_to G n (λ v. times G (gather at v ls xs) (π v)) ≡ along G (λ l. π (at l)) ls xs
   unfolding along times
   exchange at n π [] xs h = sum_zero n
   exchange at n π (l ∷ ls) [] h = sum_zero n

@@ -2,7 +2,7 @@
 -- Both are the exchange of sums at the potential that is 1 in the set and 0 outside it.
 use Rattle.std.proofs.Common.{◌≡◌, ℕ, zero, suc, ◌<◌, ◌≤◌, Bool, true, false, cond, not, ◌&&◌, List, [], ◌∷◌, ℤ, pos, ◌+ℤ◌, ◌-ℤ◌, ◌≤ℤ◌, ◌<ℤ◌, refl, arith}
 use borrow.Author.Differences.{ints}
-use Rattle.std.specs.List.{AllByRecursion as All}
+use Rattle.std.specs.List.{AllByRecursion}
 use Rattle.theory.specs.Groups.{whole}
 use Rattle.theory.specs.Arcs.{Arc, gather, Fits, Feasible, times, sum_to, along, outward, owed, AllFull}
 use Rattle.theory.proofs.Adding
@@ -43,7 +43,7 @@ unfolding sum_to
 sums zero S b o i h = refl
 sums (suc n) S b o i h = omega (arith, ints, at_station (S n) (b n) (o n) (i n) (h n (omega arith)), sums n S b o i (λ v l. h v (omega arith)))
 
-pub cut : {A : Type 0} (n : ℕ) (b : ℕ → ℤ) (S : ℕ → Bool) (ls : List (Arc A)) (xs : List ℕ) → All (λ l. l.from < n) ls → All (λ l. l.to < n) ls → Feasible n b ls xs → pos (outward S ls) <ℤ owed n S b → ⊥
+pub cut : {A : Type 0} (n : ℕ) (b : ℕ → ℤ) (S : ℕ → Bool) (ls : List (Arc A)) (xs : List ℕ) → AllByRecursion (λ l. l.from < n) ls → AllByRecursion (λ l. l.to < n) ls → Feasible n b ls xs → pos (outward S ls) <ℤ owed n S b → ⊥
 cut n b S ls xs f t h k =
     omega (arith, ints, over S ls xs h.fits, sums n S b (λ v. gather (λ l. l.from) v ls xs) (λ v. gather (λ l. l.to) v ls xs) h.balanced, Adding.exchange whole (λ l. l.from) n (one S) ls xs f, Adding.exchange whole (λ l. l.to) n (one S) ls xs t)
 
@@ -62,6 +62,6 @@ full S (l ∷ ls) [] h k = absurd h
 full S (l ∷ ls) (x ∷ xs) h k = omega (arith, ints, full_leg (S l.from) (S l.to) x l.room h.0 k.0.more k.0.less, full S ls xs h.1 k.1)
 
 -- what the set sends out, net, is what its legs outwards can carry
-pub sends : {A : Type 0} (n : ℕ) (S : ℕ → Bool) (ls : List (Arc A)) (xs : List ℕ) → All (λ l. l.from < n) ls → All (λ l. l.to < n) ls → Fits ls xs → AllFull S ls xs → owed n S (λ v. pos (gather (λ l. l.from) v ls xs) -ℤ pos (gather (λ l. l.to) v ls xs)) ≡ pos (outward S ls)
+pub sends : {A : Type 0} (n : ℕ) (S : ℕ → Bool) (ls : List (Arc A)) (xs : List ℕ) → AllByRecursion (λ l. l.from < n) ls → AllByRecursion (λ l. l.to < n) ls → Fits ls xs → AllFull S ls xs → owed n S (λ v. pos (gather (λ l. l.from) v ls xs) -ℤ pos (gather (λ l. l.to) v ls xs)) ≡ pos (outward S ls)
 sends n S ls xs f t h k =
     omega (arith, ints, full S ls xs h k, sums n S (λ v. pos (gather (λ l. l.from) v ls xs) -ℤ pos (gather (λ l. l.to) v ls xs)) (λ v. gather (λ l. l.from) v ls xs) (λ v. gather (λ l. l.to) v ls xs) (λ v l. refl), Adding.exchange whole (λ l. l.from) n (one S) ls xs f, Adding.exchange whole (λ l. l.to) n (one S) ls xs t)

@@ -1,5 +1,5 @@
 -- A round trip below zero passes no leg twice, so one bike can be sent around it.
-use Rattle.std.proofs.Common.{◌≡◌, ℕ, zero, suc, ◌⊎◌, List, [], ◌∷◌, get_or, sym, refl, ◌∙◌, subst, inl, inr, add-one, arith}
+use Rattle.std.proofs.Common.{◌≡◌, ℕ, suc, ◌⊎◌, List, [], ◌∷◌, get_or, sym, refl, ◌∙◌, subst, inl, inr, add-one, arith}
 use native.Mathlib.Decide.{ℕ_discrete}
 use Rattle.theory.specs.Groups.{OrderedGroup, cancel}
 use Rattle.theory.specs.Arcs.{Arc, Convex}

@@ -2,7 +2,7 @@
 use Rattle.std.proofs.Common.{◌≡◌, ℕ, zero, suc, ◌+◌, ◌-◌, ◌<◌, ◌≤◌, List, [], ◌∷◌, ℤ, sym, refl, ap, ◌∙◌, add-zero, add-suc, suc-add, arith}
 use native.Mathlib.Decide.{dec_lt}
 use borrow.Author.Differences.{ints}
-use Rattle.std.specs.List.{AllByRecursion as All}
+use Rattle.std.specs.List.{AllByRecursion}
 use Rattle.theory.specs.Groups.{OrderedGroup, cancel}
 use Rattle.theory.specs.Arcs.{Arc, Fits, Feasible, times, sum_to, along, fees, Convex, Tight, ReducedCosts, Uncut}
 use Rattle.theory.proofs.Adding
@@ -89,7 +89,7 @@ module _ {A : Type 0} (G : OrderedGroup A) where
         less = λ j e. Adding.regrouped G (G.shift _ _ (l.fee (suc j) ⊕ G.neg (π l.from)) (c.less j e)) (sym (Adding.restored G _ _)) (sym (one_less _ _ _ _));
       }
 
-  summed : (π : ℕ → A) (ls : List (Arc A)) (xs ys : List ℕ) → All (λ l. Convex G l.fee) ls → Fits ls xs → Fits ls ys → Uncut G π ls xs → fees G ls xs ⊕ along G (rise π) ls ys ≼ fees G ls ys ⊕ along G (rise π) ls xs
+  summed : (π : ℕ → A) (ls : List (Arc A)) (xs ys : List ℕ) → AllByRecursion (λ l. Convex G l.fee) ls → Fits ls xs → Fits ls ys → Uncut G π ls xs → fees G ls xs ⊕ along G (rise π) ls ys ≼ fees G ls ys ⊕ along G (rise π) ls xs
   unfolding fees along
   summed π [] [] [] v h k c = G.le_refl _
   summed π [] [] (y ∷ ys) v h k c = absurd k
@@ -118,11 +118,11 @@ module _ {A : Type 0} (G : OrderedGroup A) where
   even : (p q s t u w : A) → p ⊕ s ≡ u → q ⊕ t ≡ w → s ⊕ w ≡ t ⊕ u → q ≡ p
   even p q s t u w e f g = Adding.cancel_eq G q p (s ⊕ t) (simp ac (simp ac at (rw (← e, ← f) at g)))
 
-  halves : (P Q : Arc A → Type 0) (ls : List (Arc A)) → All (λ l. P l × Q l) ls → All P ls × All Q ls
+  halves : (P Q : Arc A → Type 0) (ls : List (Arc A)) → AllByRecursion (λ l. P l × Q l) ls → AllByRecursion P ls × AllByRecursion Q ls
   halves P Q [] h = (tt, tt)
   halves P Q (l ∷ ls) h = ((h.0.0, (halves P Q ls h.1).0), (h.0.1, (halves P Q ls h.1).1))
 
-  pub cheapest : (n : ℕ) (b : ℕ → ℤ) (π : ℕ → A) (ls : List (Arc A)) (xs ys : List ℕ) → All (λ l. (l.from < n) × (l.to < n)) ls → All (λ l. Convex G l.fee) ls → Feasible n b ls xs → Feasible n b ls ys → Uncut G π ls xs → fees G ls xs ≼ fees G ls ys
+  pub cheapest : (n : ℕ) (b : ℕ → ℤ) (π : ℕ → A) (ls : List (Arc A)) (xs ys : List ℕ) → AllByRecursion (λ l. (l.from < n) × (l.to < n)) ls → AllByRecursion (λ l. Convex G l.fee) ls → Feasible n b ls xs → Feasible n b ls ys → Uncut G π ls xs → fees G ls xs ≼ fees G ls ys
   cheapest n b π ls xs ys e v h k c =
       let starts = (halves (λ l. l.from < n) (λ l. l.to < n) ls e).0 in
       let ends = (halves (λ l. l.from < n) (λ l. l.to < n) ls e).1 in

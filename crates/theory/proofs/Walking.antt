@@ -1,7 +1,7 @@
 -- Walks: removal of round trips, labels, and rounds of relaxing (Bellman–Ford).
 use Rattle.std.proofs.Common.{◌≡◌, ℕ, zero, suc, ◌<◌, ◌≤◌, ◌⊎◌, List, [], ◌∷◌, length, Some, None, Option, sym, refl, inl, inr, arith}
 use native.Mathlib.Decide.{ℕ_discrete}
-use Rattle.std.specs.List.{AllByRecursion as All}
+use Rattle.std.specs.List.{AllByRecursion}
 use Rattle.theory.specs.Groups.{OrderedGroup, cancel}
 use Rattle.theory.specs.Walks.{Walk, start, step, Way, rest, go, Absent, Distinct, SimpleWalk, Least, Price, RoundTrip, Reached, Label, Rounds, AtMost}
 use Rattle.theory.proofs.Adding
@@ -173,7 +173,7 @@ module _ {A : Type 0} (G : OrderedGroup A) (F : ℕ → Type 0) (S : ℕ → ℕ
     within zero (step w s) l = absurd (omega arith)
     within (suc k) (step {u = u} {v = v} {t = t} {c = c} w s) l = E.relaxed k u v t c (within k w (omega arith)) s
 
-    visited : (n : ℕ) → ((u v : ℕ) (c : A) → S u v c → u < n) → {v : ℕ} {us : List ℕ} {t : A} → Walk G F S v us t → All (λ u. u < n) us
+    visited : (n : ℕ) → ((u v : ℕ) (c : A) → S u v c → u < n) → {v : ℕ} {us : List ℕ} {t : A} → Walk G F S v us t → AllByRecursion (λ u. u < n) us
     visited n b (start f) = tt
     visited n b (step {u = u} {v = v} {c = c} w s) = (b u v c s, visited n b w)
 

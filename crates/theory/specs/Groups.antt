@@ -5,8 +5,10 @@
 --   paired         the pairs of two ordered groups under that order
 -- The other definitions are steps towards the laws of these.
 use Rattle.std.specs.Prelude.{◌≡◌, ◌⊎◌, ℤ, pos, ◌+ℤ◌, neg_ℤ, ◌≤ℤ◌}
-use Rattle.std.proofs.Common.{inl, inr, arith}
-use Rattle.std.proofs.lemmas.Int.{by_lt_z, ints}
+use Rattle.std.proofs.Common.{inl, inr, sym, ap, ◌∙◌, subst}
+use Rattle.std.proofs.Math.IntN.{+ℤ_assoc, +ℤ_comm, +ℤ_idl, +ℤ_invl}
+use Rattle.std.specs.Int.Signed.{≤ℤ_refl}
+use Rattle.theory.specs.Integers.{whole_le_trans, whole_le_antisym, whole_total, whole_decide, whole_shift}
 
 -- the sum is commutative and associative, zero leaves a member as it is, a member and its negative sum to zero;
 -- the order is total, can be decided, and is kept by what is added to both sides
@@ -26,14 +28,6 @@ pub record OrderedGroup (A : Type 0) : Type 1 where
   pub le_decide : (a b : A) → le a b ⊎ (le a b → ⊥)
   pub shift : (a b c : A) → le a b → le (add c a) (add c b)
 
--- any two integers are in order one way round
-pub whole_total : (a b : ℤ) → (a ≤ℤ b) ⊎ (b ≤ℤ a)
-whole_total a b = by_lt_z a b (λ h. inl (omega (arith, ints))) inr
-
--- whether two integers are in order
-pub whole_decide : (a b : ℤ) → (a ≤ℤ b) ⊎ (a ≤ℤ b → ⊥)
-whole_decide a b = by_lt_z b a (λ h. inr (λ k. omega (arith, ints))) inl
-
 -- the integers
 abbrev pub whole : OrderedGroup ℤ
 whole =
@@ -42,25 +36,25 @@ whole =
       add = ◌+ℤ◌;
       neg = neg_ℤ;
       le = ◌≤ℤ◌;
-      assoc = λ a b c. omega (arith, ints);
-      comm = λ a b. omega (arith, ints);
-      unit = λ a. omega (arith, ints);
-      inverse = λ a. omega (arith, ints);
-      le_refl = λ a. omega (arith, ints);
-      le_trans = λ a b c h k. omega (arith, ints);
-      le_antisym = λ a b h k. omega (arith, ints);
+      assoc = +ℤ_assoc;
+      comm = +ℤ_comm;
+      unit = +ℤ_idl;
+      inverse = +ℤ_invl;
+      le_refl = ≤ℤ_refl;
+      le_trans = whole_le_trans;
+      le_antisym = whole_le_antisym;
       le_total = whole_total;
       le_decide = whole_decide;
-      shift = λ a b c h. omega (arith, ints);
+      shift = whole_shift;
     }
 
 -- what was added is taken off again
 pub undo : {A : Type 0} (G : OrderedGroup A) (a b : A) → G.add (G.neg a) (G.add a b) ≡ b
-undo G a b = rw (← (G.assoc (G.neg a) a b), G.inverse a) (G.unit b)
+undo G a b = sym (G.assoc (G.neg a) a b) ∙ ap (λ t. G.add t b) (G.inverse a) ∙ G.unit b
 
 -- the order is kept by what both sides lose
 pub cancel : {A : Type 0} (G : OrderedGroup A) (a b c : A) → G.le (G.add c a) (G.add c b) → G.le a b
-cancel G a b c h = rw (undo G c a, undo G c b) at (G.shift _ _ (G.neg c) h)
+cancel G a b c h = subst (λ t. G.le t b) (undo G c a) (subst (λ t. G.le (G.add (G.neg c) (G.add c a)) t) (undo G c b) (G.shift _ _ (G.neg c) h))
 
 -- pairs with equal parts are equal
 pub two : {A B : Type 0} {p q : A × B} → p.0 ≡ q.0 → p.1 ≡ q.1 → p ≡ q

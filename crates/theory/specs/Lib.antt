@@ -1,3 +1,4 @@
+pub mod Integers
 pub mod Groups
 pub mod Arcs
 pub mod Walks

@@ -17,7 +17,7 @@
 --   PushAlongTrail     bikes sent along a trail
 --   RoundTripIsTrail   a round trip below zero passes different legs
 use Rattle.std.specs.Prelude.{◌≡◌, ℕ, suc, ◌<◌, ◌≤◌, Bool, ◌⊎◌, List, length, ℤ, pos, ◌-ℤ◌, ◌<ℤ◌, Option, slice_index, slice_index_or}
-use Rattle.std.specs.List.{AllByRecursion as All}
+use Rattle.std.specs.List.{AllByRecursion}
 use Rattle.theory.specs.Groups.{OrderedGroup}
 use Rattle.theory.specs.Arcs.{Arc, gather, Fits, Feasible, times, sum_to, along, fees, Convex, Tight, Uncut, outward, owed, AllFull}
 use Rattle.theory.specs.Walks.{Walk, Distinct, SimpleWalk, Least, Price, RoundTrip, Reached, Label, Rounds, Edge, Among, Passes, AtMost}
@@ -25,7 +25,7 @@ use Rattle.theory.specs.Trails.{Trail, Pushed, Residual, Around}
 
 -- Σ over the stations below n of (amounts on legs with that end there) × π = Σ over the legs of amount × (π at that end)
 abbrev pub Exchange : {A : Type 0} → OrderedGroup A → Type 0
-Exchange {A} G = (at : Arc A → ℕ) (n : ℕ) (π : ℕ → A) (ls : List (Arc A)) (xs : List ℕ) → All (λ l. at l < n) ls → sum_to G n (λ v. times G (gather at v ls xs) (π v)) ≡ along G (λ l. π (at l)) ls xs
+Exchange {A} G = (at : Arc A → ℕ) (n : ℕ) (π : ℕ → A) (ls : List (Arc A)) (xs : List ℕ) → AllByRecursion (λ l. at l < n) ls → sum_to G n (λ v. times G (gather at v ls xs) (π v)) ≡ along G (λ l. π (at l)) ls xs
 
 -- f x - x times p is least among the amounts up to the most
 abbrev pub LeastAtOneLeg : {A : Type 0} → OrderedGroup A → Type 0
@@ -33,13 +33,13 @@ LeastAtOneLeg {A} G = (f : ℕ → A) (p : A) (most x : ℕ) → Convex G f → 
 
 -- a feasible plan that no residual step undercuts costs no more than any feasible plan
 abbrev pub UndercutByNoStep : {A : Type 0} → OrderedGroup A → Type 0
-UndercutByNoStep {A} G = (n : ℕ) (b : ℕ → ℤ) (π : ℕ → A) (ls : List (Arc A)) (xs ys : List ℕ) → All (λ l. (l.from < n) × (l.to < n)) ls → All (λ l. Convex G l.fee) ls → Feasible n b ls xs → Feasible n b ls ys → Uncut G π ls xs → G.le (fees G ls xs) (fees G ls ys)
+UndercutByNoStep {A} G = (n : ℕ) (b : ℕ → ℤ) (π : ℕ → A) (ls : List (Arc A)) (xs ys : List ℕ) → AllByRecursion (λ l. (l.from < n) × (l.to < n)) ls → AllByRecursion (λ l. Convex G l.fee) ls → Feasible n b ls xs → Feasible n b ls ys → Uncut G π ls xs → G.le (fees G ls xs) (fees G ls ys)
 
 abbrev pub CutHolds : Type 0 → Type 0
-CutHolds A = (n : ℕ) (b : ℕ → ℤ) (S : ℕ → Bool) (ls : List (Arc A)) (xs : List ℕ) → All (λ l. l.from < n) ls → All (λ l. l.to < n) ls → Feasible n b ls xs → pos (outward S ls) <ℤ owed n S b → ⊥
+CutHolds A = (n : ℕ) (b : ℕ → ℤ) (S : ℕ → Bool) (ls : List (Arc A)) (xs : List ℕ) → AllByRecursion (λ l. l.from < n) ls → AllByRecursion (λ l. l.to < n) ls → Feasible n b ls xs → pos (outward S ls) <ℤ owed n S b → ⊥
 
 abbrev pub FullCut : Type 0 → Type 0
-FullCut A = (n : ℕ) (S : ℕ → Bool) (ls : List (Arc A)) (xs : List ℕ) → All (λ l. l.from < n) ls → All (λ l. l.to < n) ls → Fits ls xs → AllFull S ls xs → owed n S (λ v. pos (gather (λ l. l.from) v ls xs) -ℤ pos (gather (λ l. l.to) v ls xs)) ≡ pos (outward S ls)
+FullCut A = (n : ℕ) (S : ℕ → Bool) (ls : List (Arc A)) (xs : List ℕ) → AllByRecursion (λ l. l.from < n) ls → AllByRecursion (λ l. l.to < n) ls → Fits ls xs → AllFull S ls xs → owed n S (λ v. pos (gather (λ l. l.from) v ls xs) -ℤ pos (gather (λ l. l.to) v ls xs)) ≡ pos (outward S ls)
 
 -- a walk shows a round trip below zero, or some simple walk to the same station totals no more
 abbrev pub RoundTripsRemoved : {A : Type 0} → OrderedGroup A → Type 0
@@ -68,7 +68,7 @@ LeastTotalsExist {A} G =
 
 -- different numbers below n are at most n
 abbrev pub FewDistinct : Type 0
-FewDistinct = (n : ℕ) (vs : List ℕ) → Distinct vs → All (λ v. v < n) vs → length vs ≤ n
+FewDistinct = (n : ℕ) (vs : List ℕ) → Distinct vs → AllByRecursion (λ v. v < n) vs → length vs ≤ n
 
 -- d k v is the label of v after k rounds: it is at most the total of every walk of at most k steps
 abbrev pub RoundsReach : {A : Type 0} → OrderedGroup A → Type 0

@@ -1,4 +1,6 @@
 // Theorems about plans, walks and prices over any ordered group. Each is the promise of one function.
+#![tactic(auto)]
+
 ghost use Rattle.std.specs.Prelude.{◌≡◌, ℤ};
 ghost use Rattle.theory.specs.Groups.{OrderedGroup, whole, paired};
 ghost use Rattle.theory.specs.Theorems.{CutHolds, Exchange, FewDistinct, FullCut, LabelsAreLeast, LabelsExcludeRoundTrips, LeastAtOneLeg, LeastTotalsExist, PriceIsLeast, PushAlongTrail, ReducedCostOfPrices, RoundTripIsTrail, RoundTripsRemoved, RoundsReach, RoundsShowTrip, UndercutByNoStep};
