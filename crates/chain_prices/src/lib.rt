@@ -1,4 +1,6 @@
 // Prices of stations: the least totals in cents of simple walks on the residual network of a plan.
+#![tactic(auto)]
+
 ghost use Rattle.std.specs.Prelude.{◌≡◌, ◌≤◌, length};
 ghost use Rattle.plans.specs.Plans.{stations as count_of};
 ghost use Rattle.chain_prices.specs.Priced.{Priced, Writes, price_in};

@@ -1,5 +1,7 @@
 // Runs the search and the prices on small cases, and prints what they answer. The lines are
 // compared with the file `stdout`.
+#![tactic(auto)]
+
 mod cases;
 mod print;
 mod worked;

@@ -1,4 +1,6 @@
 // Kinds of cost: cents, bikes of difference, and pairs of any two kinds.
+#![tactic(auto)]
+
 pub mod bikes;
 pub mod cents;
 pub mod cost;

@@ -1,5 +1,5 @@
 -- The first labels, and what labels say when rounds end.
-use Rattle.std.proofs.Common.{◌≡◌, ℕ, zero, suc, ◌+◌, ◌*◌, ◌<◌, ◌≤◌, Bool, true, false, ◌⊎◌, List, [], ◌∷◌, length, Some, None, Option, sym, refl, ap, ◌∙◌, subst, inl, inr, arith}
+use Rattle.std.proofs.Common.{◌≡◌, ℕ, suc, ◌<◌, ◌≤◌, Bool, true, false, List, [], ◌∷◌, length, Some, None, Option, sym, refl, ap, ◌∙◌, subst, inl, inr, arith}
 use Rattle.std.proofs.lemmas.Bool.{both_ways}
 use Rattle.theory.specs.Groups.{OrderedGroup}
 use Rattle.theory.specs.Walks.{Walk, start, step, Least, Reached, Label, Rounds, AtMost}
@@ -7,8 +7,8 @@ use Rattle.theory.specs.Walks as walks
 use Rattle.theory.proofs.Adding.{shift_right}
 use Rattle.theory.proofs.Walking
 use Rattle.search.specs.Labels.{label_at, held, begun}
-use Rattle.search.specs.Searches.{Before, Comes, Settles}
-use Rattle.search.specs.Rounds.{Attained, CameBy, Came, After, Late, Still, Begins}
+use Rattle.search.specs.Searches.{Comes, Settles}
+use Rattle.search.specs.Rounds.{Came, After, Late, Still, Begins}
 use Rattle.search.specs.declared.label.Last.{Last}
 use Rattle.search.specs.declared.label.Last.TheVariants.{Start}
 use Rattle.search.specs.declared.label.Arrival.{Arrival}

@@ -1,5 +1,5 @@
 -- Labels and worths that are there or absent.
-use Rattle.std.proofs.Common.{◌≡◌, ℕ, ◌<◌, Bool, true, false, ◌≢◌, ◌⊎◌, List, length, set, Some, None, Option, sym, refl, ap, ◌∙◌, inl, inr, arith, get_or-set_other, get_or-set_same}
+use Rattle.std.proofs.Common.{◌≡◌, ℕ, ◌<◌, Bool, true, false, ◌≢◌, ◌⊎◌, List, length, set, Some, None, Option, sym, refl, ◌∙◌, inl, inr, arith, get_or-set_other, get_or-set_same}
 use Rattle.theory.specs.Groups.{OrderedGroup, cancel}
 use Rattle.theory.specs.Walks.{AtMost}
 use Rattle.search.specs.Labels.{label_at, held, lowest, fresh_of, unlabelled}

@@ -1,12 +1,12 @@
 -- Rounds of relaxing: one round more, and the end.
-use Rattle.std.proofs.Common.{◌≡◌, ℕ, suc, ◌+◌, ◌*◌, ◌^◌, ◌<◌, ◌≤◌, Bool, true, false, cond, ◌⊎◌, List, [], ◌∷◌, length, Some, None, Option, sym, refl, ap, ◌∙◌, subst, inl, inr, arith}
+use Rattle.std.proofs.Common.{◌≡◌, ℕ, suc, ◌*◌, ◌<◌, ◌≤◌, Bool, true, false, cond, ◌⊎◌, List, [], ◌∷◌, length, Some, None, Option, sym, refl, ap, ◌∙◌, subst, inl, inr, arith}
 use Rattle.std.proofs.lemmas.Bool.{cases_Bool, both_ways}
 use Rattle.theory.specs.Groups.{OrderedGroup}
 use Rattle.theory.specs.Walks.{Walk, start, step, AtMost}
 use Rattle.theory.proofs.Adding.{shift_right}
 use Rattle.theory.proofs.Walking.{at_most_up}
-use Rattle.search.specs.Labels.{label_at, best, held, lowest, committed, committed_by}
-use Rattle.search.specs.Sweeps.{place, Sweep, Found}
+use Rattle.search.specs.Labels.{label_at, best, held, lowest, committed_by}
+use Rattle.search.specs.Sweeps.{place, Sweep}
 use Rattle.search.specs.Rounds.{Attained, CameBy, Came, After, Late, Commits, Still}
 use Rattle.search.specs.declared.label.Last.{Last}
 use Rattle.search.specs.declared.label.Arrival.{Arrival}

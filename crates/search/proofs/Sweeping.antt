@@ -1,5 +1,5 @@
 -- One round over the legs: one step more.
-use Rattle.std.proofs.Common.{◌≡◌, ℕ, suc, ◌+◌, ◌^◌, ◌<◌, ◌≤◌, Bool, true, ◌≢◌, ◌⊎◌, List, length, drop, set, Some, None, Option, sym, refl, ap, ◌∙◌, subst, inl, inr, arith, length-set}
+use Rattle.std.proofs.Common.{◌≡◌, ℕ, suc, ◌+◌, ◌^◌, ◌<◌, ◌≤◌, true, List, length, set, Some, None, sym, refl, ap, ◌∙◌, subst, inl, inr, arith, length-set}
 use native.Mathlib.Decide.{ℕ_discrete}
 use Rattle.std.proofs.lemmas.List.{drop-set-lt}
 use Rattle.std.proofs.lemmas.Bool.{cases_lt}
@@ -10,9 +10,9 @@ use Rattle.theory.specs.Walks.{AtMost}
 use Rattle.plans.specs.Plans.{stations, leg_at, amount, in_force}
 use Rattle.plans.specs.Residuals.{Direction, forth, back, Joined}
 use Rattle.search.specs.Fees.{paid}
-use Rattle.search.specs.Labels.{label_at, best, held, with_better, fresh}
+use Rattle.search.specs.Labels.{label_at, best, with_better, fresh}
 use Rattle.search.specs.Searches.{Over}
-use Rattle.search.specs.Sweeps.{place, Offered, Found, Sweep, SweepOf, Relaxes, Sweeps}
+use Rattle.search.specs.Sweeps.{place, Offered, Found, Sweep, Relaxes, Sweeps}
 use Rattle.search.specs.declared.label.Last.{Last}
 use Rattle.search.specs.declared.label.Last.TheVariants.{Start, Forth, Back}
 use Rattle.search.specs.declared.label.Arrival.{Arrival}

@@ -8,7 +8,6 @@
 --   committed    a label at the end of a round
 --   begun        a label before the first round
 use Rattle.std.specs.Prelude.{ℕ, Bool, true, false, List, Some, None, Option, slice_index_or}
-use Rattle.search.specs.declared.label.Last.{Last}
 use Rattle.search.specs.declared.label.Last.TheVariants.{Start}
 use Rattle.search.specs.declared.label.Arrival.{Arrival}
 use Rattle.search.specs.declared.label.Label.{Label}

@@ -5,7 +5,7 @@
 --   Sweep      a round that has relaxed the steps with places below j
 --   Offered    a label after a walk was offered to it
 --   Relaxes    what relaxing one step does to a round
-use Rattle.std.specs.Prelude.{◌≡◌, ℕ, suc, ◌+◌, ◌^◌, ◌<◌, ◌≤◌, Bool, true, ◌⊎◌, List, length, drop, Some, slice_set}
+use Rattle.std.specs.Prelude.{◌≡◌, ℕ, suc, ◌+◌, ◌^◌, ◌<◌, ◌≤◌, true, ◌⊎◌, List, length, drop, Some, slice_set}
 use Rattle.records.specs.declared.leg.Leg.{Leg}
 use Rattle.network.specs.Nets.{Net}
 use Rattle.theory.specs.Groups.{OrderedGroup}

@@ -1,4 +1,6 @@
 // The search for cheapest walks on the residual network of a plan.
+#![tactic(auto)]
+
 ghost use Rattle.search.specs.Searches.{Searched};
 
 pub mod fees;

@@ -17,7 +17,7 @@ pub(crate) fn outcome(
     name: &str,
     answer: Result<Outcome, Refusal>,
 ) -> io::Result<()> {
-    print!(rt, "{name}: ")?;
+    print!(rt; "{name}: ")?;
     match answer {
         Ok(Outcome::Settled) => println!(rt; "settled"),
         Ok(Outcome::RoundTrip) => println!(rt; "a round trip below zero"),
@@ -32,7 +32,7 @@ pub(crate) fn prices(
     answer: Result<bool, Refusal>,
     prices: &[i64],
 ) -> io::Result<()> {
-    print!(rt, "{name}: ")?;
+    print!(rt; "{name}: ")?;
     match answer {
         Ok(true) => println!(rt; "written")?,
         Ok(false) => println!(rt; "not written")?,
@@ -53,12 +53,12 @@ fn last(rt: &HostRuntime, last: Last) -> io::Result<()> {
 // Labels in cents.
 pub(crate) fn labels(rt: &HostRuntime, labels: &[Label<Cents>]) -> io::Result<()> {
     for (station, label) in labels.iter().enumerate() {
-        print!(rt, "  {station}: ")?;
+        print!(rt; "  {station}: ")?;
         match label.arrival {
             None => println!(rt; "unreached")?,
             Some(arrival) => {
                 let total = arrival.total.0;
-                print!(rt, "{total}")?;
+                print!(rt; "{total}")?;
                 last(rt, arrival.last)?;
             }
         }
@@ -72,13 +72,13 @@ pub(crate) fn both_labels(
     labels: &[Label<Pair<Cents, Bikes>>],
 ) -> io::Result<()> {
     for (station, label) in labels.iter().enumerate() {
-        print!(rt, "  {station}: ")?;
+        print!(rt; "  {station}: ")?;
         match label.arrival {
             None => println!(rt; "unreached")?,
             Some(arrival) => {
                 let cents = arrival.total.first.0;
                 let bikes = arrival.total.second.0;
-                print!(rt, "{cents} {bikes}")?;
+                print!(rt; "{cents} {bikes}")?;
                 last(rt, arrival.last)?;
             }
         }

@@ -1,4 +1,4 @@
-use Rattle.std.proofs.Common.{◌≡◌, ◌≤◌, length, drop, sym, ◌∙◌, subst, arith}
+use Rattle.std.proofs.Common.{◌∙◌, subst, arith}
 use Rattle.plans.specs.Plans.{stations}
 use Rattle.search.specs.Rounds.{Begins}
 use Rattle.search.proofs.Stepping.{begun_of}

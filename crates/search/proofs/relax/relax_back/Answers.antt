@@ -1,4 +1,4 @@
-use Rattle.std.proofs.Common.{◌≡◌, ◌<◌, sym, arith}
+use Rattle.std.proofs.Common.{◌<◌, sym, arith}
 use Rattle.search.proofs.Sweeping.{back_empty, back_stale, back_offered}
 use Rattle.search.proofs.relax.relax_back.Goals as goal
 

@@ -1,4 +1,4 @@
-use Rattle.std.proofs.Common.{◌≡◌, ◌<◌, ◌≤◌, sym, arith}
+use Rattle.std.proofs.Common.{◌<◌, ◌≤◌, sym, arith}
 use Rattle.plans.specs.Plans.{in_force}
 use Rattle.search.proofs.Sweeping.{forth_full, forth_stale, forth_offered}
 use Rattle.search.proofs.relax.relax_forth.Goals as goal

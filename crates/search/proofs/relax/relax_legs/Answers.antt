@@ -1,4 +1,4 @@
-use Rattle.std.proofs.Common.{suc, ◌+◌, length, arith}
+use Rattle.std.proofs.Common.{suc, ◌+◌, arith}
 use Rattle.plans.specs.Plans.{stations}
 use Rattle.search.specs.Fees.{paid}
 use Rattle.search.specs.Searches.{Over}

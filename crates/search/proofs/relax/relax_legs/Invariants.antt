@@ -1,4 +1,4 @@
-use Rattle.std.proofs.Common.{◌≡◌, ◌+◌, ◌≤◌, length}
+use Rattle.std.proofs.Common.{◌≡◌, ◌+◌, length}
 use Rattle.search.specs.Sweeps.{Sweeps}
 use Rattle.search.proofs.relax.relax_legs.Given as goal
 

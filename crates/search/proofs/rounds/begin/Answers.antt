@@ -1,4 +1,4 @@
-use Rattle.std.proofs.Common.{◌≡◌, ◌<◌, ◌≤◌, length, set, ap, ◌∙◌, arith}
+use Rattle.std.proofs.Common.{◌≡◌, set, ap, ◌∙◌, arith}
 use Rattle.search.specs.Labels.{begun}
 use Rattle.search.proofs.Writing.{beginning_none, beginning_more}
 use Rattle.search.proofs.rounds.begin.Goals as goal

@@ -1,4 +1,3 @@
-use Rattle.std.proofs.Common.{◌≡◌}
 use Rattle.search.proofs.Writing.{Beginning}
 use Rattle.search.proofs.rounds.begin.Given as goal
 

@@ -1,4 +1,4 @@
-use Rattle.std.proofs.Common.{◌<◌, ◌≤◌, arith}
+use Rattle.std.proofs.Common.{arith}
 use Rattle.search.proofs.Writing.{committing_none, committing_true, committing_false, committing_all}
 use Rattle.search.proofs.rounds.commit.Goals as goal
 use Rattle.search.proofs.rounds.commit.Goals.{then-commit_label, else-commit_label}
