@@ -1,4 +1,6 @@
 // What `vanplan` answers to a network text: the bytes that it prints.
+#![tactic(auto)]
+
 ghost use Rattle.std.specs.Prelude.{◌≡◌, length, IfOk, string_bytes};
 ghost use Rattle.records.specs.Refusals.{number, place};
 ghost use Rattle.text_rules.specs.Reading.{reading};

@@ -1,4 +1,6 @@
 // One line of a network text: which of the forms it has, and the numbers that it states.
+#![tactic(auto)]
+
 pub mod line;
 mod scan;
 

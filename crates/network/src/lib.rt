@@ -1,5 +1,7 @@
 // What a network is: the questions that every network answers, and the calls of an office above
 // them. Each is promised by the network's meaning, so that code above is proved once for all.
+#![tactic(auto)]
+
 ghost use Rattle.std.specs.Prelude.{◌≡◌, length};
 ghost use Rattle.std.specs.List.{slice_get};
 ghost use Rattle.records.specs.declared.leg.Mark.TheVariants.{Open, Shut};

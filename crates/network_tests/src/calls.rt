@@ -11,21 +11,21 @@ pub(crate) fn report<N: Office>(
     balance: i32,
 ) -> io::Result<()> {
     let answer = office.report(station, balance);
-    print!(rt, "  report {station} {balance}")?;
+    print!(rt; "  report {station} {balance}")?;
     print::answer(rt, answer)
 }
 
 // A leg is closed.
 pub(crate) fn close<N: Office>(rt: &HostRuntime, office: &mut N, leg: usize) -> io::Result<()> {
     let answer = office.close(leg);
-    print!(rt, "  close {leg}")?;
+    print!(rt; "  close {leg}")?;
     print::answer(rt, answer)
 }
 
 // A leg is reopened.
 pub(crate) fn reopen<N: Office>(rt: &HostRuntime, office: &mut N, leg: usize) -> io::Result<()> {
     let answer = office.reopen(leg);
-    print!(rt, "  reopen {leg}")?;
+    print!(rt; "  reopen {leg}")?;
     print::answer(rt, answer)
 }
 

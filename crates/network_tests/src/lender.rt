@@ -33,8 +33,8 @@ pub(crate) fn records(rt: &HostRuntime) -> io::Result<()> {
     let mut legs = LEGS;
     let mut stations = STATIONS;
     let answer = close_lent(&mut legs, &mut stations, 2);
-    print!(rt, "  close 2 for a lender")?;
+    print!(rt; "  close 2 for a lender")?;
     print::answer(rt, answer)?;
-    print!(rt, "  record: ")?;
+    print!(rt; "  record: ")?;
     print::leg_record(rt, legs[2])
 }

@@ -1,5 +1,7 @@
 // Runs tables, promenades and piles of layers on small cases, and prints what they answer. The
 // lines are compared with the file `stdout`.
+#![tactic(auto)]
+
 mod calls;
 mod known;
 mod lender;

@@ -35,7 +35,7 @@ pub(crate) fn leg_record(rt: &HostRuntime, leg: Leg) -> io::Result<()> {
 
 // A leg, or that there is none.
 pub(crate) fn leg<N: Network>(rt: &HostRuntime, network: &N, number: usize) -> io::Result<()> {
-    print!(rt, "  leg {number}: ")?;
+    print!(rt; "  leg {number}: ")?;
     let Some(leg) = network.leg(number) else {
         return println!(rt; "absent");
     };

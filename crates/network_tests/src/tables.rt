@@ -133,7 +133,7 @@ pub(crate) fn lent(rt: &HostRuntime) -> io::Result<()> {
         calls::report(rt, &mut table, 2, 11)?;
     }
     for leg in &legs {
-        print!(rt, "  record: ")?;
+        print!(rt; "  record: ")?;
         print::leg_record(rt, *leg)?;
     }
     let stations = [

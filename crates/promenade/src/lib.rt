@@ -1,5 +1,7 @@
 // A network that needs no records: up to 40 stations in a row, with a leg each way between
 // neighbours, all of one capacity and one charge.
+#![tactic(auto)]
+
 ghost use Rattle.std.specs.Prelude.{◌≡◌, ◌<◌, ◌≤◌, min};
 ghost use Rattle.network.specs.Keeping.{nothing};
 ghost use Rattle.promenade.specs.Promenades.{fresh, promenade, promenade_leg, promenade_within, row_legs};

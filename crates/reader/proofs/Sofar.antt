@@ -1,5 +1,5 @@
 -- What holds while a text is read: the lines so far, what they settled, and the tables.
-use Rattle.std.proofs.Common.{◌≡◌, ℕ, ◌+◌, ◌-◌, ◌<◌, ◌≤◌, Bool, true, false, not, List, [], ◌∷◌, ◌++◌, length, drop, set, pos, is_some, Some, None, Ok, Err, Option, Result, sym, refl, ap, ◌∙◌, arith}
+use Rattle.std.proofs.Common.{◌≡◌, ℕ, ◌+◌, ◌-◌, ◌<◌, ◌≤◌, true, not, List, [], ◌∷◌, length, drop, set, pos, is_some, Some, None, Option, sym, refl, ap, ◌∙◌, arith}
 use Rattle.std.proofs.lemmas.List.FromFn.{length-map-range_with_len}
 use Rattle.std.proofs.lemmas.List.{length_push}
 use Rattle.std.proofs.lemmas.Bool.{and_parts, both_ways, false≢true}
@@ -7,10 +7,9 @@ use Rattle.std.proofs.lemmas.Bool.Decides.{nat_tests}
 use Rattle.records.specs.Cleared.{cleared_leg, cleared_station}
 use Rattle.records.specs.declared.leg.Leg.{Leg}
 use Rattle.records.specs.declared.station.Station.{Station}
-use Rattle.records.specs.declared.refusal.Refusal.{Refusal}
 use Rattle.lines.specs.declared.line.Line.{Line}
 use Rattle.lines.specs.declared.line.Line.TheVariants.{Comment, Problem, Node, Arc}
-use Rattle.text_rules.specs.Judging.{nodes_in, arcs_in, advanced}
+use Rattle.text_rules.specs.Judging.{nodes_in, arcs_in}
 use Rattle.text_rules.specs.Reading.{progress_of, padded, run}
 use Rattle.text_rules.specs.Rows.{rows}
 use Rattle.text_rules.specs.Rules.{NODES}

@@ -1,5 +1,5 @@
 -- One line more of a text that is read, and its end.
-use Rattle.std.proofs.Common.{◌≡◌, ℕ, ◌+◌, ◌-◌, ◌<◌, ◌≤◌, min, Bool, true, false, cond, eqb, List, [], ◌∷◌, length, drop, replicate, Some, None, Ok, Err, Option, Result, sym, refl, ap, ◌∙◌, subst, ⊎_elim, add-one, arith}
+use Rattle.std.proofs.Common.{◌≡◌, ℕ, ◌+◌, ◌-◌, ◌<◌, ◌≤◌, min, Bool, true, false, eqb, List, [], ◌∷◌, length, drop, replicate, Some, None, Ok, Err, Option, Result, sym, refl, ap, ◌∙◌, subst, ⊎_elim, add-one, arith}
 use native.Mathlib.Nat.{sub-zero}
 use Rattle.std.proofs.lemmas.List.{drop_all}
 use Rattle.std.proofs.lemmas.Bool.{cases_Bool, cases_lt, eqb-true, le-leb, lt-leb}
@@ -10,7 +10,7 @@ use Rattle.records.specs.declared.refusal.Refusal.{Refusal}
 use Rattle.lines.specs.Scan.{scan}
 use Rattle.lines.specs.declared.line.Line.{Line}
 use Rattle.text_rules.specs.Judging.{judged, finished, finishedBy, nodes_in}
-use Rattle.text_rules.specs.Reading.{progress_of, padded, ruled, run, ◌next◌, reading, answer_of, legs_after, stations_after}
+use Rattle.text_rules.specs.Reading.{progress_of, ruled, run, ◌next◌, reading, answer_of, legs_after, stations_after}
 use Rattle.text_rules.specs.Rows.{rows}
 use Rattle.text_rules.specs.Rules.{NODES}
 use Rattle.text_rules.specs.Stated.{legs_of}
@@ -19,9 +19,9 @@ use Rattle.text_rules.specs.declared.progress.Progress.{Progress}
 use Rattle.text_rules.specs.declared.progress.Room.{Room}
 use Rattle.reader.specs.Taking.{row_at, next_place, judged_row, judged_at}
 use Rattle.reader.specs.Entering.{Stepped, Filled, legs_with}
-use Rattle.reader.proofs.Passing.{Passed, passed}
+use Rattle.reader.proofs.Passing.{passed}
 use Rattle.reader.proofs.RowEnds.{rows_at}
-use Rattle.reader.proofs.Sofar.{Sofar, Sound, sound_none, sound_more, legs_more, stations_more, LegsHeld, StationsHeld}
+use Rattle.reader.proofs.Sofar.{Sofar, sound_none, sound_more, legs_more, stations_more}
 
 pub sofar_none : (room : Room) (text : List ℕ) (place lines : ℕ) (p : Progress) (legs : List Leg) (stations : List Station)
     → place ≡ 0 → lines ≡ 0 → p ≡ record { header = None; arcs = 0 } → legs ≡ replicate room.legs cleared_leg

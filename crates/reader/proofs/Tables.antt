@@ -1,13 +1,13 @@
 -- The tables while a text is read: what a line enters keeps them the padded records of the lines so far.
-use Rattle.std.proofs.Common.{◌≡◌, ℕ, suc, ◌+◌, ◌-◌, ◌<◌, ◌≤◌, Bool, true, false, cond, eqb, List, [], ◌∷◌, ◌++◌, map, length, get_or, set, replicate, ℤ, pos, sym, refl, ap, ◌∙◌, ⊎_elim, arith}
+use Rattle.std.proofs.Common.{◌≡◌, ℕ, suc, ◌+◌, ◌-◌, ◌<◌, ◌≤◌, eqb, List, [], ◌∷◌, ◌++◌, map, length, get_or, set, replicate, ℤ, pos, sym, refl, ap, ◌∙◌, ⊎_elim, arith}
 use Rattle.std.specs.List.{range_with_len}
-use Rattle.std.proofs.lemmas.List.{length-append, length_push, set_at, set-append_left, append_assoc, length-set, length-map, ext_get_or, get_or-set_same, get_or-set_other, replicate-append-replicate, length-replicate, get_or-replicate}
+use Rattle.std.proofs.lemmas.List.{length_push, set_at, set-append_left, append_assoc, length-set, ext_get_or, get_or-set_same, get_or-set_other, replicate-append-replicate, length-replicate, get_or-replicate}
 use Rattle.std.proofs.lemmas.List.FromFn.{length-map-range_with_len, get_or-map-range_with_len}
 use Rattle.std.proofs.lemmas.Bool.{cond-true, cond-false, eq-eqb, ne_eqb, cases_eq}
 use Rattle.records.specs.Cleared.{cleared_station}
 use Rattle.records.specs.declared.station.Station.{Station}
 use Rattle.lines.specs.declared.line.Line.{Line}
-use Rattle.lines.specs.declared.line.Line.TheVariants.{Comment, Problem, Node, Arc}
+use Rattle.lines.specs.declared.line.Line.TheVariants.{Node}
 use Rattle.text_rules.specs.Reading.{padded}
 use Rattle.text_rules.specs.Stated.{balance_of, station_of}
 

@@ -1,8 +1,7 @@
 -- A line that is judged and refused.
-use Rattle.std.proofs.Common.{◌≡◌, ℕ, ◌+◌, ◌≤◌, cond, List, length, Some, Err, sym, ap, ◌∙◌}
+use Rattle.std.proofs.Common.{◌≡◌, ℕ, ◌+◌, ◌≤◌, List, length, Some, Err, sym, ap, ◌∙◌}
 use Rattle.std.proofs.lemmas.Bool.{le-leb}
 use Rattle.records.specs.declared.refusal.Refusal.{Refusal}
-use Rattle.records.specs.declared.refusal.Refusal.TheVariants.{TextTooLong}
 use Rattle.lines.specs.Scan.{scan}
 use Rattle.lines.specs.declared.line.Line.{Line}
 use Rattle.text_rules.specs.Judging.{judged}

@@ -1,5 +1,5 @@
 -- A whole text that is read: what the call answers and leaves.
-use Rattle.std.proofs.Common.{◌≡◌, ℕ, true, false, List, length, replicate, is_err, Ok, Err, Result, sym, refl, ap, ◌∙◌, subst}
+use Rattle.std.proofs.Common.{◌≡◌, ℕ, true, false, List, replicate, is_err, Ok, Err, Result, sym, ap, ◌∙◌, subst}
 use Rattle.std.proofs.lemmas.Bool.{true≢false, false≢true}
 use Rattle.records.specs.Cleared.{cleared_leg, cleared_station}
 use Rattle.records.specs.declared.leg.Leg.{Leg}

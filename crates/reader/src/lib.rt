@@ -1,4 +1,6 @@
 // Reading a network text: line by line, and whole into lent tables.
+#![tactic(auto)]
+
 mod guard;
 pub mod reader;
 mod reading;

@@ -1,5 +1,7 @@
 // Reads texts that are built here, and prints what each reading answers and leaves in the tables.
 // The lines are compared with the file `stdout`.
+#![tactic(auto)]
+
 mod bytes;
 mod cases;
 mod clearing;

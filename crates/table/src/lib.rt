@@ -1,5 +1,7 @@
 // A network on lent records: the first 3,000 legs and the first 240 stations. It answers what the
 // records hold, also where that makes no sense; reports and closings are written into them.
+#![tactic(auto)]
+
 ghost use Rattle.std.specs.Prelude.{◌≡◌, drop};
 ghost use Rattle.table.specs.Lent.{kept_four};
 ghost use Rattle.table.specs.Tables.{table_of, table_within};

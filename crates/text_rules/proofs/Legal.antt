@@ -1,11 +1,10 @@
 -- What every network that some text states keeps.
-use Rattle.std.proofs.Common.{◌≡◌, ℕ, ◌+◌, ◌<◌, ◌≤◌, eqb, List, [], ◌∷◌, length, ℤ, pos, negsuc, ◌≤ℤ◌, Option, sym, refl, subst, arith}
-use Rattle.std.specs.List.{range_with_len, AllByRecursion as All}
+use Rattle.std.proofs.Common.{ℕ, ◌+◌, ◌≤◌, eqb, List, [], ◌∷◌, Option, sym, refl, subst, arith}
+use Rattle.std.specs.List.{range_with_len, AllByRecursion}
 use Rattle.std.proofs.ByRecursion.{All-push, All-weaker, All-map}
 use Rattle.std.proofs.lemmas.Int.{ints}
 use Rattle.std.proofs.lemmas.Bool.{false≢true, cond_both}
 use Rattle.records.specs.declared.leg.Leg.{Leg}
-use Rattle.records.specs.declared.leg.Mark.TheVariants.{Open}
 use Rattle.records.specs.declared.station.Station.{Station}
 use Rattle.lines.specs.declared.line.Line.{Line}
 use Rattle.lines.specs.declared.line.Line.TheVariants.{Comment, Problem, Node, Arc}
@@ -18,12 +17,12 @@ use Rattle.text_rules.proofs.Sizing.{length_legs, length_stations}
 never_lawful : (n : ℕ) (leg : Leg) → LegLawful 0 leg → LegLawful n leg
 never_lawful n leg h = let e = h.starts in absurd (omega arith)
 
-legs_lawful : (lines : List Line) → Lawful lines → All (LegLawful (NODES lines)) (legs_of lines)
+legs_lawful : (lines : List Line) → Lawful lines → AllByRecursion (LegLawful (NODES lines)) (legs_of lines)
 legs_lawful [] w = tt
 legs_lawful (Comment ∷ before) w = legs_lawful before w.3
 legs_lawful (Problem nodes arcs ∷ before) w =
     All-weaker (LegLawful 0) (LegLawful nodes) (never_lawful nodes) (legs_of before)
-    (subst (λ (o : Option (ℕ × ℕ)). All (LegLawful (nodes_of o)) (legs_of before)) w.0 (legs_lawful before w.3))
+    (subst (λ (o : Option (ℕ × ℕ)). AllByRecursion (LegLawful (nodes_of o)) (legs_of before)) w.0 (legs_lawful before w.3))
 legs_lawful (Node id flow ∷ before) w = legs_lawful before w.3
 legs_lawful (Arc source target low capacity cost ∷ before) w =
     let r = w.1 in
@@ -52,7 +51,7 @@ sizes_bounded (Problem nodes arcs ∷ before) w a = w.1
 sizes_bounded (Node id flow ∷ before) w a = sizes_bounded before w.3 a
 sizes_bounded (Arc source target low capacity cost ∷ before) w a = sizes_bounded before w.3 a
 
-all_of : {X : Type 0} (P : X → Type 0) → ((x : X) → P x) → (xs : List X) → All P xs
+all_of : {X : Type 0} (P : X → Type 0) → ((x : X) → P x) → (xs : List X) → AllByRecursion P xs
 all_of P h [] = tt
 all_of P h (x ∷ xs) = (h x, all_of P h xs)
 
@@ -65,7 +64,7 @@ lines_legal lines w c =
       few = omega (arith, s.1, long);
       few_legs = omega (arith, s.2, length_legs lines, c.1);
       bounded = All-map (λ x. Bounded x.balance) (station_of lines) (range_with_len 0 (NODES lines)) (all_of _ (balance_bounded lines w) _);
-      lawful_legs = subst (λ n. All (LegLawful n) (legs_of lines)) (sym long) (legs_lawful lines w);
+      lawful_legs = subst (λ n. AllByRecursion (LegLawful n) (legs_of lines)) (sym long) (legs_lawful lines w);
     }
 
 pub legal : (text : List ℕ) (stations : List Station) (legs : List Leg)

@@ -3,7 +3,7 @@
 --   advanced   what is settled once a line is taken
 --   judged     what is settled once the line is taken, or the refusal of the lowest number
 --   finished   the numbers of nodes and arcs, once every line is taken
-use Rattle.std.specs.Prelude.{◌≡◌, ℕ, ◌+◌, Bool, true, false, cond, not, ◌&&◌, ℤ, pos, negsuc, is_some, Some, None, Ok, Err, Option, Result, ◌==◌, int_le, nat_le, nat_lt}
+use Rattle.std.specs.Prelude.{ℕ, ◌+◌, Bool, true, cond, not, ◌&&◌, pos, negsuc, is_some, Some, None, Ok, Err, Option, Result, ◌==◌, int_le, nat_le, nat_lt}
 use Rattle.records.specs.declared.refusal.Refusal.{Refusal}
 use Rattle.records.specs.declared.refusal.Refusal.TheVariants.{LineOutOfOrder, FieldOutOfRange, TablesTooShort, ArcsMiscounted}
 use Rattle.lines.specs.declared.line.Line.{Line}

@@ -3,7 +3,7 @@
 --   Bounded     a balance within its range
 --   Legal       stations and legs within the limits
 use Rattle.std.specs.Prelude.{◌≡◌, ℕ, ◌<◌, ◌≤◌, List, length, ℤ, pos, negsuc, ◌≤ℤ◌}
-use Rattle.std.specs.List.{AllByRecursion as All}
+use Rattle.std.specs.List.{AllByRecursion}
 use Rattle.records.specs.declared.leg.Leg.{Leg}
 use Rattle.records.specs.declared.leg.Mark.TheVariants.{Open}
 use Rattle.records.specs.declared.station.Station.{Station}
@@ -23,5 +23,5 @@ pub record Legal (stations : List Station) (legs : List Leg) : Type 0 where
   pub some : 1 ≤ length stations
   pub few : length stations ≤ 240
   pub few_legs : length legs ≤ 3000
-  pub bounded : All (λ s. Bounded s.balance) stations
-  pub lawful_legs : All (LegLawful (length stations)) legs
+  pub bounded : AllByRecursion (λ s. Bounded s.balance) stations
+  pub lawful_legs : AllByRecursion (LegLawful (length stations)) legs

@@ -11,7 +11,7 @@
 --   Fitting            tables that are as long as a network
 --   TooLong, FaultAt, EndsEarly   the three ways in which a text is refused
 --   Refused            a text and the number and place of its refusal
-use Rattle.std.specs.Prelude.{◌≡◌, ℕ, ◌+◌, ◌-◌, ◌<◌, ◌≤◌, cond, ◌⊎◌, List, [], ◌∷◌, ◌++◌, map, length, ℤ, pos, Option, ◌==◌}
+use Rattle.std.specs.Prelude.{◌≡◌, ℕ, ◌+◌, ◌-◌, ◌<◌, ◌≤◌, cond, ◌⊎◌, List, [], ◌∷◌, ◌++◌, map, length, ℤ, pos, ◌==◌}
 use Rattle.std.specs.List.{range_with_len}
 use Rattle.records.specs.declared.leg.Leg.{Leg}
 use Rattle.records.specs.declared.leg.Mark.TheVariants.{Open}

@@ -1,7 +1,6 @@
 -- A table on the first NODES and ARCS of the records that a text was read into.
-use Rattle.std.proofs.Common.{◌≡◌, ℕ, ◌≤◌, List, ◌++◌, length, take, replicate, Ok, Err, Result, sym, refl, ap, ◌∙◌, subst, arith}
+use Rattle.std.proofs.Common.{◌≡◌, ℕ, List, length, take, Ok, Err, Result, sym, refl, ap, ◌∙◌, arith}
 use Rattle.std.proofs.lemmas.List.{take_at, take_all}
-use Rattle.records.specs.Cleared.{cleared_leg, cleared_station}
 use Rattle.records.specs.declared.leg.Leg.{Leg}
 use Rattle.records.specs.declared.station.Station.{Station}
 use Rattle.records.specs.declared.refusal.Refusal.{Refusal}
@@ -15,7 +14,7 @@ use Rattle.text_rules.proofs.Running.{Read, Taken, reads}
 use Rattle.text_rules.proofs.Sizing.{fitting_roomy, length_stations}
 use Rattle.network.specs.Nets.{Net, unasked}
 use Rattle.table.specs.Tables.{table_of, balances_of}
-use Rattle.text_table.specs.Stands.{net_of, Stands, Falls}
+use Rattle.text_table.specs.Stands.{Stands}
 
 -- the lines that were read state the network that the records hold
 pub record Held (text : List ℕ) (room : Room) (nodes arcs : ℕ) (legs : List Leg) (stations : List Station) : Type 0 where

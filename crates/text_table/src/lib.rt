@@ -1,4 +1,6 @@
 // From a network text to a table, in one call.
+#![tactic(auto)]
+
 ghost use Rattle.std.specs.Prelude.{◌≡◌, MatchResult};
 ghost use Rattle.reader.specs.Entering.{room_of};
 ghost use Rattle.table.specs.Tables.{table_of};

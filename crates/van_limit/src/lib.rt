@@ -1,4 +1,6 @@
 // A layer over any network: no leg takes more bikes than a van. All else is as below.
+#![tactic(auto)]
+
 ghost use Rattle.std.specs.Prelude.{◌≡◌, min};
 ghost use Rattle.network.specs.Keeping.{below as part};
 ghost use Rattle.van_limit.specs.Limited.{limited, limited_within};

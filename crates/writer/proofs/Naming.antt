@@ -3,7 +3,7 @@
 --   Reached                     lawful lines and the rows that spell them, behind a problem line
 --   nodes_reached, arcs_reached the lines of stations and of legs keep to that
 use Rattle.std.proofs.Common.{◌≡◌, ℕ, zero, suc, ◌+◌, ◌<◌, ◌≤◌, List, [], ◌∷◌, ◌++◌, map, length, ℤ, pos, negsuc, is_some, Some, refl, ap, ◌∙◌, subst, append_assoc, append-nil, arith}
-use Rattle.std.specs.List.{AllByRecursion as All}
+use Rattle.std.specs.List.{AllByRecursion}
 use Rattle.std.proofs.ByRecursion.{All-push}
 use Rattle.records.specs.declared.leg.Leg.{Leg}
 use Rattle.records.specs.declared.station.Station.{Station}
@@ -32,7 +32,7 @@ onto_arcs (leg ∷ rest) before = onto_arcs rest (arc_of leg ∷ before)
 
 pub record Reached (n m : ℕ) (before : List Line) (rows : List (List ℕ)) : Type 0 where
   pub spelled : Spells before rows
-  pub no_ends : All NoEnd rows
+  pub no_ends : AllByRecursion NoEnd rows
   pub lawful : Lawful before
   pub problem : problem_in before ≡ Some (n, m)
 
@@ -92,7 +92,7 @@ arc_lines_node id (pos (suc n)) before = refl
 arc_lines_node id (negsuc n) before = refl
 
 pub nodes_reached : (n m k : ℕ) (stations : List Station) (before : List Line) (rows : List (List ℕ)) → k + length stations ≤ n → n ≤ 240
-    → All (λ s. Bounded s.balance) stations → arc_lines before ≡ 0 → Reached n m before rows
+    → AllByRecursion (λ s. Bounded s.balance) stations → arc_lines before ≡ 0 → Reached n m before rows
     → Reached n m (onto_nodes k stations before) (rows ++ node_lines k stations)
 nodes_reached n m k [] before rows within few h none r = rw append-nil r
 nodes_reached n m k (s ∷ rest) before rows within few h none r =
@@ -104,7 +104,7 @@ nodes_reached n m k (s ∷ rest) before rows within few h none r =
     (append_assoc rows row (node_lines (k + 1) rest) ∙ ap (λ ls. rows ++ ls) (with_node_append (k + 1) z (node_lines (k + 1) rest))) all
 
 pub arcs_reached : (n m : ℕ) (legs : List Leg) (before : List Line) (rows : List (List ℕ)) → arc_lines before + length legs ≤ m → n ≤ 240
-    → All (LegLawful n) legs → Reached n m before rows → Reached n m (onto_arcs legs before) (rows ++ map arc_line legs)
+    → AllByRecursion (LegLawful n) legs → Reached n m before rows → Reached n m (onto_arcs legs before) (rows ++ map arc_line legs)
 arcs_reached n m [] before rows within few h r = rw append-nil r
 arcs_reached n m (leg ∷ rest) before rows within few h r =
     let one = arc_reached n m before rows r leg few h.0 (omega arith) in

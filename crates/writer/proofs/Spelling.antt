@@ -4,7 +4,7 @@
 --   problem_spelt, node_spelt, arc_spelt   each canonical line
 --   parted                      lines without a line end, each ended, make up a text
 use Rattle.std.proofs.Common.{◌≡◌, ℕ, suc, ◌+◌, ◌≤◌, Bool, true, not, ◌&&◌, eqb, List, [], ◌∷◌, ◌++◌, ℤ, pos, negsuc, codes, decimal, sym, refl, inl, inr, append_assoc, arith, rules}
-use Rattle.std.specs.List.{flat_map, AllByRecursion as All}
+use Rattle.std.specs.List.{flat_map, AllByRecursion}
 use Rattle.std.specs.Fmt.{signed_decimal}
 use Rattle.std.proofs.lemmas.Fmt.{decimal_nonempty, length-decimal-le, digits_decimal, digits_value-decimal}
 use Rattle.std.proofs.lemmas.Str.Parse.{IsNumeralModel, numerals_by_fold}
@@ -118,6 +118,6 @@ arc_spelt n leg few h =
           (no_end_word (codes " ") _ refl (no_end_decimal _ h.costs)))))));
     }
 
-pub parted : (rows : List (List ℕ)) → All NoEnd rows → Parted rows (flat_map ended rows)
+pub parted : (rows : List (List ℕ)) → AllByRecursion NoEnd rows → Parted rows (flat_map ended rows)
 parted [] h = refl
 parted (row ∷ rest) h = (h.0, inl (flat_map ended rest, append_assoc row (10 ∷ []) (flat_map ended rest), parted rest h.1))

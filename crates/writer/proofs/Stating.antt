@@ -2,7 +2,7 @@
 --   legs_arcs, stations_back    the legs and the stations that the lines state
 --   reads_back                  the law of reading back
 use Rattle.std.proofs.Common.{◌≡◌, ℕ, zero, suc, ◌+◌, ◌-◌, ◌<◌, ◌≤◌, eqb, List, [], ◌∷◌, ◌++◌, map, length, ℤ, pos, negsuc, is_some, sym, refl, ap, ◌∙◌, append_assoc, append-nil, arith}
-use Rattle.std.specs.List.{range_with_len, AllByRecursion as All}
+use Rattle.std.specs.List.{range_with_len, AllByRecursion}
 use Rattle.std.proofs.lemmas.Bool.{cond-true, cond-false, eq-eqb, ne_eqb}
 use Rattle.records.specs.declared.leg.Leg.{Leg}
 use Rattle.records.specs.declared.station.Station.{Station}
@@ -44,7 +44,7 @@ leg_back n leg h =
     let mark = sym h.unshut in
     λ i. record { start = from i; end = to i; capacity = leg.capacity; charge = leg.charge; mark = mark i }
 
-legs_arcs : (n : ℕ) (legs : List Leg) (before : List Line) → All (LegLawful n) legs → legs_of (onto_arcs legs before) ≡ legs_of before ++ legs
+legs_arcs : (n : ℕ) (legs : List Leg) (before : List Line) → AllByRecursion (LegLawful n) legs → legs_of (onto_arcs legs before) ≡ legs_of before ++ legs
 legs_arcs n [] before h = sym (append-nil (legs_of before))
 legs_arcs n (leg ∷ rest) before h =
     legs_arcs n rest (arc_of leg ∷ before) h.1

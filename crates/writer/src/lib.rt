@@ -1,11 +1,12 @@
 // Writing a network as its canonical text.
+#![tactic(auto)]
+
 ghost use Rattle.std.specs.Prelude.{◌≡◌, ◌+◌, ◌++◌, map, pos, IfOk, string_bytes, Decides, OnOk};
 ghost use Rattle.std.specs.List.{flat_map};
 ghost use Rattle.writer.specs.Canonical.{problem_line, node_line, node_lines, arc_line, ended, canonical, ReadBack};
 
 use records::{Leg, Station};
 use std::alloc::{AllocError, Global};
-use std::fmt;
 
 // The ID of a station, by its number.
 fn id_of(station: u16) -> u32
@@ -22,21 +23,21 @@ fn is_balanced(station: &Station) -> bool
 }
 
 // Appends the problem line.
-fn write_problem(out: &mut String, nodes: usize, arcs: usize) -> fmt::Result
+fn write_problem(out: &mut String, nodes: usize, arcs: usize) -> Result<(), AllocError>
     ensures { OnOk result (string_bytes out.new ≡ string_bytes out.old ++ ended (problem_line nodes arcs)) }
 {
     writeln!(out, "p min {nodes} {arcs}")
 }
 
 // Appends the line of a node.
-fn write_node(out: &mut String, id: usize, flow: i32) -> fmt::Result
+fn write_node(out: &mut String, id: usize, flow: i32) -> Result<(), AllocError>
     ensures { OnOk result (string_bytes out.new ≡ string_bytes out.old ++ ended (node_line id flow)) }
 {
     writeln!(out, "n {id} {flow}")
 }
 
 // Appends the line of a leg.
-fn write_arc(out: &mut String, leg: &Leg) -> fmt::Result
+fn write_arc(out: &mut String, leg: &Leg) -> Result<(), AllocError>
     ensures { OnOk result (string_bytes out.new ≡ string_bytes out.old ++ ended (arc_line leg.now)) }
 {
     let source = id_of(leg.start);
@@ -47,7 +48,7 @@ fn write_arc(out: &mut String, leg: &Leg) -> fmt::Result
 }
 
 // Appends a node line for each station whose balance is not 0.
-fn write_nodes(out: &mut String, stations: &[Station]) -> fmt::Result
+fn write_nodes(out: &mut String, stations: &[Station]) -> Result<(), AllocError>
     ensures { OnOk result (string_bytes out.new ≡ string_bytes out.old ++ flat_map ended (node_lines 0 stations.now)) }
 {
     for (i, station) in stations.iter().enumerate() {
@@ -59,7 +60,7 @@ fn write_nodes(out: &mut String, stations: &[Station]) -> fmt::Result
 }
 
 // Appends an arc line for each leg.
-fn write_arcs(out: &mut String, legs: &[Leg]) -> fmt::Result
+fn write_arcs(out: &mut String, legs: &[Leg]) -> Result<(), AllocError>
     ensures { OnOk result (string_bytes out.new ≡ string_bytes out.old ++ flat_map ended (map arc_line legs.now)) }
 {
     for leg in legs {
@@ -69,7 +70,7 @@ fn write_arcs(out: &mut String, legs: &[Leg]) -> fmt::Result
 }
 
 // Appends every line of a network.
-fn write_network(out: &mut String, stations: &[Station], legs: &[Leg]) -> fmt::Result
+fn write_network(out: &mut String, stations: &[Station], legs: &[Leg]) -> Result<(), AllocError>
     ensures { OnOk result (string_bytes out.new ≡ string_bytes out.old ++ canonical stations.now legs.now) }
 {
     write_problem(out, stations.len(), legs.len())?;
@@ -83,8 +84,6 @@ pub fn network_text(heap: Global, stations: &[Station], legs: &[Leg]) -> Result<
     ensures read_back { ReadBack stations.now legs.now }
 {
     let mut out = String::new(heap);
-    match write_network(&mut out, stations, legs) {
-        Ok(()) => Ok(out),
-        Err(_) => Err(AllocError),
-    }
+    write_network(&mut out, stations, legs)?;
+    Ok(out)
 }

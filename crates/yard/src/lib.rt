@@ -1,5 +1,7 @@
 // A layer over any network: a yard, one station more with a leg from and to each station below,
 // that takes up what the balances below leave over. All else is as below.
+#![tactic(auto)]
+
 ghost use Rattle.std.specs.Prelude.{◌≡◌, ◌+◌, ◌*◌, ◌<◌, ◌≤◌, min, length, neg_ℤ};
 ghost use Rattle.std.specs.List.{slice_get};
 ghost use Rattle.network.specs.Keeping.{below as part};

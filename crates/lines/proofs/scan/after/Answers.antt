@@ -1,11 +1,11 @@
-use Rattle.std.proofs.Common.{◌≡◌, ◌+◌, drop, sym, ap, ◌∙◌, arith, rules}
+use Rattle.std.proofs.Common.{◌+◌, drop, sym, ap, ◌∙◌, arith}
 use Rattle.lines.specs.Scan.{after, ◌then◌}
 use Rattle.lines.proofs.Scanning.{after_more, after_all}
 use Rattle.lines.proofs.scan.after.Goals as goal
 
 pub returns-in_err-rest : goal.returns-in_err-rest
 returns-in_err-rest c =
-    rw c.from-residual.ensures
+    rw c.from_residual.ensures
     (sym c.loop-b.invariant ∙ after_more c.loop-b.b-index c.args.word.now c.loop-b.rest.now (omega arith)
     ∙ ap (λ o. o then after (drop (c.loop-b.b-index + 1) c.args.word.now)) c.in_err-rest.ensures)
 

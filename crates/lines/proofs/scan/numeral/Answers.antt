@@ -1,4 +1,4 @@
-use Rattle.std.proofs.Common.{◌≡◌, ◌-◌, ◌<◌, length, drop, Some, sym, ap, ◌∙◌, arith, rules}
+use Rattle.std.proofs.Common.{◌≡◌, ◌-◌, ◌<◌, drop, Some, sym, ap, ◌∙◌, arith, rules}
 use Rattle.lines.proofs.scan.numeral.Goals as goal
 use Rattle.lines.proofs.scan.numeral.Goals.{then-loop-count-test+else-count-s, else-loop-count-test, then-loop-count-test+then-count-s+in_default}
 use Rattle.std.proofs.lemmas.List.{take_rest}

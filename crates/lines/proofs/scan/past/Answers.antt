@@ -1,4 +1,4 @@
-use Rattle.std.proofs.Common.{arith, rules}
+use Rattle.std.proofs.Common.{rules}
 use Rattle.std.proofs.lemmas.List.{take_rest}
 use Rattle.lines.proofs.Scanning.{past_at}
 use Rattle.lines.proofs.scan.past.Goals as goal

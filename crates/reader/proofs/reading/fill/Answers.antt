@@ -1,6 +1,6 @@
-use Rattle.std.proofs.Common.{◌-◌, ◌<◌, true, false, length, Ok, Err, sym, ap, ◌∙◌}
+use Rattle.std.proofs.Common.{true, false, Ok, Err, ◌∙◌}
 use Rattle.std.proofs.lemmas.Result.{err_from_is_err_and}
-use Rattle.reader.specs.Entering.{Stepped, room_of}
+use Rattle.reader.specs.Entering.{room_of}
 use Rattle.reader.proofs.Steps.{sofar_none, sofar_more, filled_last, filled_refused, step_falls, stepped_here}
 use Rattle.reader.proofs.reading.fill.Goals as goal
 
@@ -21,7 +21,7 @@ returns-in_err-step c =
     let inv = c.loop.invariant in
     let room = room_of c.args.legs.now c.args.stations.now in
     let stepped = stepped_here (Err c.in_err-step.field-0.0) room _ c.args.text.now _ _ _ _ _ _ _ _ _ _ _ inv.0 inv.1 c.in_err-step.ensures.stepped in
-    let p = err_from_is_err_and c.from-residual.result c.from-residual.ensures.1 in
+    let p = err_from_is_err_and c.from_residual.result c.from_residual.ensures.1 in
     rw (p.1, p.2) (filled_refused room c.args.text.now _ _ _ _ _ _ inv.2 stepped.0.0 stepped.0.1)
 
 pub loop-smaller : goal.loop-smaller

@@ -1,4 +1,4 @@
-use Rattle.std.proofs.Common.{◌≡◌, length, replicate, sym, ap, ◌∙◌}
+use Rattle.std.proofs.Common.{length, replicate, sym, ap, ◌∙◌}
 use Rattle.records.specs.Cleared.{cleared_leg, cleared_station}
 use Rattle.text_rules.specs.Reading.{reading}
 use Rattle.reader.specs.Entering.{room_of}

@@ -1,4 +1,4 @@
-use Rattle.std.proofs.Common.{◌≡◌, ◌+◌, min, length, sym, ap, ◌∙◌}
+use Rattle.std.proofs.Common.{◌+◌, min, length, sym, ap, ◌∙◌}
 use Rattle.lines.specs.Scan.{scan}
 use Rattle.reader.proofs.RowEnds.{row_taken, row_long}
 use Rattle.reader.proofs.taking.line_at.Goals as goal

@@ -4,7 +4,7 @@ use Rattle.network.specs.Offices.{mark_fault}
 use Rattle.table.proofs.Writes.{mark_keeps, mark_there, mark_writes}
 use Rattle.table.proofs.TableOffice.reopen.Goals as goal
 
-clear : (c : goal.In-ok-check_mark) → mark_fault (length (take 3000 c.args.self.now.legs.now)) (take 3000 c.args.self.now.legs.now) c.args.leg Open ≡ None
+clear : (c : goal.In_ok-check_mark) → mark_fault (length (take 3000 c.args.self.now.legs.now)) (take 3000 c.args.self.now.legs.now) c.args.leg Open ≡ None
 clear c = c.in_ok-check_mark.ensures
 
 pub bounds-self-leg : goal.bounds-self-leg

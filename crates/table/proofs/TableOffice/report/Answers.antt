@@ -4,7 +4,7 @@ use Rattle.network.specs.Offices.{report_fault}
 use Rattle.table.proofs.Writes.{report_clear, report_there, report_writes}
 use Rattle.table.proofs.TableOffice.report.Goals as goal
 
-clear : (c : goal.In-ok-check_report) → report_fault (length (take 240 c.args.self.now.stations.now)) c.args.station c.args.balance ≡ None
+clear : (c : goal.In_ok-check_report) → report_fault (length (take 240 c.args.self.now.stations.now)) c.args.station c.args.balance ≡ None
 clear c = report_clear _ _ _ _ c.open_stations.ensures c.ranges.balance c.in_ok-check_report.ensures
 
 pub bounds-self-station : goal.bounds-self-station

@@ -1,4 +1,3 @@
-use Rattle.std.proofs.Common.{sym}
 use Rattle.lines.proofs.Forms.{spells}
 use Rattle.lines.proofs.line.Line.scan.Goals as goal
 
