@@ -1,4 +1,6 @@
 // What a planning refuses before it searches.
+#![tactic(auto)]
+
 ghost use Rattle.checks.specs.Checks.{Checks, checked};
 ghost use Rattle.checks.specs.Theorems.{LowestSays, PassedSay};
 

@@ -1,5 +1,7 @@
 // Lists that keep their order: who stays on a list keeps its place among the others, and who comes
 // new goes to the end.
+#![tactic(auto)]
+
 ghost use Rattle.std.specs.Prelude.{◌≡◌, ℕ, ◌≤◌, Bool, [], ◌∷◌, length, take};
 ghost use Rattle.std.specs.List.{range_with_len};
 ghost use Rattle.listing.specs.Example.{ThreeLists};

@@ -47,10 +47,10 @@ fn count(heap: Global, gap: &Gap, number: u8) -> Result<usize, AllocError> {
 // Prints how many bytes have each answer.
 fn tally(rt: &HostRuntime, name: &str, gap: &Gap) -> io::Result<()> {
     let ok = count(rt.alloc(), gap, 0)?;
-    print!(rt, "{name}: ok {ok}, refused")?;
+    print!(rt; "{name}: ok {ok}, refused")?;
     for number in 1..7u8 {
         let refused = count(rt.alloc(), gap, number)?;
-        print!(rt, " {refused}")?;
+        print!(rt; " {refused}")?;
     }
     println!(rt; "")
 }
@@ -67,7 +67,7 @@ fn list(
     for byte in 0..=255u8 {
         let answer = answer_with(rt.alloc(), &gap, byte)?;
         if number_of(answer) != 2 {
-            print!(rt, "  {byte} ")?;
+            print!(rt; "  {byte} ")?;
             print::answer(rt, answer)?;
             println!(rt; "")?;
         }

@@ -86,7 +86,7 @@ pub(crate) fn read_into(rt: &HostRuntime, text: &[u8], room: Room, shown: bool) 
     }
     let left = uncleared(other_legs, other_stations);
     if left != 0 {
-        print!(rt, ", {left} not cleared")?;
+        print!(rt; ", {left} not cleared")?;
     }
     println!(rt; "")
 }
@@ -97,7 +97,7 @@ pub(crate) fn between(rt: &HostRuntime, frame: &Frame, lines: &[&str]) -> io::Re
     let behind = frame.behind;
     for line in lines {
         let text = format!(in rt.alloc(); "{before}{line}{behind}")?;
-        print!(rt, "{line:?}: ")?;
+        print!(rt; "{line:?}: ")?;
         read_into(rt, text.as_str().as_bytes(), frame.room, frame.shown)?;
     }
     Ok(())
@@ -106,7 +106,7 @@ pub(crate) fn between(rt: &HostRuntime, frame: &Frame, lines: &[&str]) -> io::Re
 // Reads each text under its name.
 pub(crate) fn named(rt: &HostRuntime, texts: &[(&str, &str)], shown: bool) -> io::Result<()> {
     for (name, text) in texts {
-        print!(rt, "{name}: ")?;
+        print!(rt; "{name}: ")?;
         read_into(rt, text.as_bytes(), SMALL, shown)?;
     }
     Ok(())

@@ -34,7 +34,7 @@ fn read_again(
     stations: &mut [Station],
 ) -> io::Result<()> {
     let answer = read(text.as_bytes(), legs, stations);
-    print!(rt, "{name}: ")?;
+    print!(rt; "{name}: ")?;
     print::answer(rt, answer)?;
     print::stations(rt, stations)?;
     print::legs(rt, legs)?;

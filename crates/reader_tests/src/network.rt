@@ -115,7 +115,7 @@ pub(crate) fn whole(rt: &HostRuntime) -> io::Result<()> {
         legs.as_mut_slice(),
         stations.as_mut_slice(),
     );
-    print!(rt, "240 nodes and 3000 arcs: ")?;
+    print!(rt; "240 nodes and 3000 arcs: ")?;
     print::answer(rt, answer)?;
     let count = other_stations(stations.as_slice()).saturating_add(other_legs(legs.as_slice()));
     println!(rt; ", {count} records differ")

@@ -14,16 +14,16 @@ const ROOM: Room = Room {
 // A line that was taken.
 fn print_line(rt: &HostRuntime, line: Line) -> io::Result<()> {
     match line {
-        Line::Comment => print!(rt, "comment"),
-        Line::Problem { nodes, arcs } => print!(rt, "problem {nodes} {arcs}"),
-        Line::Node { id, flow } => print!(rt, "node {id} {flow}"),
+        Line::Comment => print!(rt; "comment"),
+        Line::Problem { nodes, arcs } => print!(rt; "problem {nodes} {arcs}"),
+        Line::Node { id, flow } => print!(rt; "node {id} {flow}"),
         Line::Arc {
             source,
             target,
             low,
             capacity,
             cost,
-        } => { print!(rt, "arc {source} {target} {low} {capacity} {cost}") }
+        } => { print!(rt; "arc {source} {target} {low} {capacity} {cost}") }
     }
 }
 
@@ -31,10 +31,10 @@ fn print_line(rt: &HostRuntime, line: Line) -> io::Result<()> {
 fn take(rt: &HostRuntime, reader: &mut Reader) -> io::Result<()> {
     let answer = reader.take_line();
     let place = reader.place();
-    print!(rt, "  ")?;
+    print!(rt; "  ")?;
     match answer {
         Ok(Some(line)) => print_line(rt, line)?,
-        Ok(None) => print!(rt, "end")?,
+        Ok(None) => print!(rt; "end")?,
         Err(refusal) => print::refusal(rt, refusal)?,
     }
     println!(rt; ", place {place}")

@@ -6,23 +6,23 @@ use std::io;
 pub(crate) fn refusal(rt: &HostRuntime, refusal: Refusal) -> io::Result<()> {
     let number = refusal.number();
     let place = refusal.place();
-    print!(rt, "refused {number} {place}")
+    print!(rt; "refused {number} {place}")
 }
 
 // What a reading answered.
 pub(crate) fn answer(rt: &HostRuntime, answer: Result<(usize, usize), Refusal>) -> io::Result<()> {
     match answer {
-        Ok((nodes, arcs)) => print!(rt, "ok {nodes} {arcs}"),
+        Ok((nodes, arcs)) => print!(rt; "ok {nodes} {arcs}"),
         Err(reason) => refusal(rt, reason),
     }
 }
 
 // The balances of the stations.
 pub(crate) fn stations(rt: &HostRuntime, stations: &[Station]) -> io::Result<()> {
-    print!(rt, ", balances")?;
+    print!(rt; ", balances")?;
     for station in stations {
         let balance = station.balance;
-        print!(rt, " {balance}")?;
+        print!(rt; " {balance}")?;
     }
     Ok(())
 }
@@ -46,7 +46,7 @@ pub(crate) fn legs(rt: &HostRuntime, legs: &[Leg]) -> io::Result<()> {
             mark,
         } = *leg;
         let word = mark_word(mark);
-        print!(rt, ", leg {start} {end} {capacity} {charge} {word}")?;
+        print!(rt; ", leg {start} {end} {capacity} {charge} {word}")?;
     }
     Ok(())
 }

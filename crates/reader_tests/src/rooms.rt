@@ -6,7 +6,7 @@ use text_rules::Room;
 // Reads a text into tables of each room: the stations first, then the legs.
 fn into_each(rt: &HostRuntime, name: &str, text: &str, rooms: &[(usize, usize)]) -> io::Result<()> {
     for (stations, legs) in rooms {
-        print!(rt, "{name} into {stations} and {legs}: ")?;
+        print!(rt; "{name} into {stations} and {legs}: ")?;
         let room = Room {
             stations: *stations,
             legs: *legs,

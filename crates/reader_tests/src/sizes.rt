@@ -20,7 +20,7 @@ const ARC: &str = "a 1 2 0 5 7\n";
 
 // Reads a text under a name.
 fn case(rt: &HostRuntime, name: &str, room: Room, text: String) -> io::Result<()> {
-    print!(rt, "{name}: ")?;
+    print!(rt; "{name}: ")?;
     cases::read_into(rt, text.as_str().as_bytes(), room, false)
 }
 

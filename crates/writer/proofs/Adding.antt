@@ -5,6 +5,7 @@
 --   network_added           the problem line, the node lines and the arc lines are the canonical text
 use Rattle.std.proofs.Common.{◌≡◌, ℕ, zero, suc, ◌+◌, List, [], ◌∷◌, ◌++◌, map, length, ℤ, pos, negsuc, IfOk, Ok, Err, codes, decimal, Result, sym, refl, ap, ◌∙◌, append_assoc, append-nil, w32, SFits, to_z, of_z}
 use Rattle.std.proofs.lemmas.Int.{to_z-of_z}
+use Rattle.std.proofs.lemmas.Grind.{flat_map-append}
 use Rattle.std.specs.List.{flat_map}
 use Rattle.std.specs.Fmt.{signed_decimal}
 use Rattle.records.specs.declared.leg.Leg.{Leg}
@@ -61,10 +62,6 @@ pub station_passed : (before after : List ℕ) (id : ℕ) (z : ℤ) (rest : List
 station_passed before after id z rest whole none inv e =
     ap (λ s. s ++ flat_map ended rest) e ∙ ap (λ y. before ++ flat_map ended (with_node id y rest)) (sym none) ∙ inv
 
-joined_append : {X A : Type 0} (f : X → List A) (xs ys : List X) → flat_map f (xs ++ ys) ≡ flat_map f xs ++ flat_map f ys
-joined_append f [] ys = refl
-joined_append f (x ∷ xs) ys = ap (λ s. f x ++ s) (joined_append f xs ys) ∙ sym (append_assoc (f x) (flat_map f xs) (flat_map f ys))
-
 pub network_added : {X Y : Type 0} (r : Result X Y) (start one two after : List ℕ) (stations : List Station) (legs : List Leg)
     → one ≡ start ++ ended (problem_line (length stations) (length legs)) → two ≡ one ++ flat_map ended (node_lines 0 stations)
     → IfOk r (λ _. after ≡ two ++ flat_map ended (map arc_line legs)) → IfOk r (λ _. after ≡ start ++ canonical stations legs)
@@ -73,5 +70,5 @@ network_added (Ok x) start one two after stations legs p n a =
     let nodes = flat_map ended (node_lines 0 stations) in
     let arcs = flat_map ended (map arc_line legs) in
     a ∙ ap (λ s. s ++ arcs) n ∙ append_assoc one nodes arcs ∙ ap (λ s. s ++ (nodes ++ arcs)) p ∙ append_assoc start front (nodes ++ arcs)
-    ∙ ap (λ s. start ++ (front ++ s)) (sym (joined_append ended (node_lines 0 stations) (map arc_line legs)))
+    ∙ ap (λ s. start ++ (front ++ s)) (sym (flat_map-append ended (node_lines 0 stations) (map arc_line legs)))
 network_added (Err y) start one two after stations legs p n a = tt

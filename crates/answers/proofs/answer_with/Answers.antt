@@ -1,4 +1,4 @@
-use Rattle.std.proofs.Common.{◌≡◌, length, string_bytes, ap, ◌∙◌}
+use Rattle.std.proofs.Common.{◌≡◌, length, string_bytes}
 use Rattle.text_rules.specs.declared.progress.Room.{Room}
 use Rattle.answers.specs.Printed.{whole_room}
 use Rattle.answers.proofs.Printing.{table_printed, fall_printed}

@@ -4,7 +4,7 @@ use Rattle.listing.proofs.list.Goals as goal
 
 pub enter_earlier-stay-requires : goal.enter_earlier-stay-requires
 enter_earlier-stay-requires g c =
-    marked_none c.args.count c.args.marks.now c.clear.new.marks c.args.out.now c.clear.ensures (omega (arith, c.clear.auto.marks, c.if-marks-count.false)) c.if-out-count.false
+    marked_none c.args.count c.args.marks.now c.clear.new.marks c.args.out.now c.clear.ensures (omega (arith, c.clear.auto.marks, c.if-marks-count.false)) (omega (arith, c.if-out-count.false))
 
 pub copy-requires : goal.copy-requires
 copy-requires g c =
@@ -13,7 +13,7 @@ copy-requires g c =
 
 pub returns : goal.returns
 returns g c = (
-  (c.if-out-count.false, c.if-kept-count.false, c.if-marks-count.false),
+  (omega (arith, c.if-out-count.false), c.if-kept-count.false, c.if-marks-count.false),
   made (g.B.Belongs.belongs c.args.who.now) c.args.count c.front.result.now (take c.args.long c.args.kept.now) c.enter_earlier-stay.result c.enter_rising-all.result c.args.kept.now c.copy.new.to
       c.args.marks.now c.clear.new.marks c.enter_earlier-stay.new.marks c.enter_rising-all.new.marks c.args.out.now c.enter_earlier-stay.new.out c.enter_rising-all.new.out
       c.front.ensures c.clear.ensures c.enter_earlier-stay.ensures c.enter_rising-all.ensures c.copy.ensures,
