@@ -1,4 +1,6 @@
 // What `vanplan` answers to a network text: the bytes that it prints.
+#![tactic(auto)]
+
 ghost use Rattle.std.specs.Prelude.{◌≡◌, length, IfOk, string_bytes};
 ghost use Rattle.checks.specs.Checks.{checked};
 ghost use Rattle.planning.specs.Planned.{lengths_of};
