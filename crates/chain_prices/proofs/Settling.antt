@@ -1,5 +1,5 @@
 -- From what the search says at cents, from every station, to prices.
-use Rattle.std.proofs.Common.{◌≡◌, ℕ, ◌<◌, Bool, true, ◌⊎◌, List, [], drop, ℤ, pos, ◌+ℤ◌, ◌≤ℤ◌, Some, None, sym, refl, ap, ◌∙◌, subst, inl, inr}
+use Rattle.std.proofs.Common.{ℕ, ◌<◌, true, List, [], ℤ, pos, sym, refl, subst, inl, inr}
 use Rattle.network.specs.Nets.{Net}
 use Rattle.theory.specs.Groups.{OrderedGroup, whole}
 use Rattle.theory.specs.Walks.{start, Way, rest, go, RoundTrip, Reached}
@@ -16,7 +16,7 @@ use Rattle.chain_search.specs.declared.label.Label.{Label}
 use Rattle.chain_search.proofs.Optional.{option_cases}
 use Rattle.steps.proofs.Paying.{cents_same}
 use Rattle.chain_search.proofs.Stepping.{ends}
-use Rattle.chain_prices.specs.Priced.{price_at, price_in, total_in, Writes, Prices}
+use Rattle.chain_prices.specs.Priced.{price_at, price_in, Writes, Prices}
 
 -- where walks start at the end of every step, every round trip below zero is reached
 module _ {A : Type 0} (G : OrderedGroup A) (F : ℕ → Type 0) (S : ℕ → ℕ → A → Type 0) (ends-start : (u v : ℕ) (c : A) → S u v c → F v) where

@@ -1,11 +1,11 @@
-use Rattle.std.proofs.Common.{◌≡◌, ◌≤◌, true, length, refl, ap, ◌∙◌, subst, arith}
+use Rattle.std.proofs.Common.{true, false, refl, subst, arith}
 use Rattle.theory.specs.Groups.{whole}
 use Rattle.plans.specs.Plans.{stations}
 use Rattle.costs.specs.declared.cents.Cents.{Cents}
 use Rattle.steps.specs.Fees.{cents_worth}
 use Rattle.chain_search.specs.Searches.{Answer}
 use Rattle.chain_search.specs.declared.outcome.Outcome.TheVariants.{Settled, RoundTrip}
-use Rattle.chain_prices.specs.Priced.{Writes}
+use Rattle.chain_prices.specs.Priced.{Writes, Written}
 use Rattle.chain_prices.proofs.Settling.{trip_of, no_trip_of, prices_of}
 use Rattle.chain_prices.proofs.prices.Goals as goal
 
@@ -27,4 +27,5 @@ returns-in-RoundTrip g c =
     let e = c.in-Ok.ensures in
     let z : Answer whole (λ (m : Cents). m.0) net plan cents_worth (λ _. true) RoundTrip c.search.new.labels =
     subst (λ o. Answer whole (λ (m : Cents). m.0) net plan cents_worth (λ _. true) o c.search.new.labels) c.in-RoundTrip.is e.2 in
-    (e.0, omega (arith, c.stations-stations.ensures), e.1, (trip_of net plan z, refl))
+    let w : Written net plan false c.args.prices.now c.args.prices.now = (trip_of net plan z, refl) in
+    (e.0, omega (arith, c.stations-stations.ensures), e.1, w)

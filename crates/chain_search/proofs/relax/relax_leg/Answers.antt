@@ -32,7 +32,7 @@ pub relax_forth-requires : goal.relax_forth-requires
 relax_forth-requires g c =
     let net = g.N.Network.meaning c.args.net.now in
     let e : leg_at net c.args.number ≡ c.in-Some.leg = get_or_some net.legs c.args.number c.in-Some.leg cleared_leg (sym c.in-Some.ensures) in
-    omega (arith, c.requires.0.end_Below, c.requires.1, ap (λ l. l.end) e)
+    omega (arith, c.requires.0.end_below, c.requires.1, ap (λ l. l.end) e)
 
 pub relax_back-requires : goal.relax_back-requires
 relax_back-requires g c =

@@ -1,5 +1,4 @@
 use Rattle.std.proofs.Common.{◌≡◌, suc, ◌-◌, ◌<◌, length, sym, ◌∙◌, subst, arith}
-use Rattle.chain_search.specs.Chains.{link}
 use Rattle.chain_search.specs.Sweeps.{Walks}
 use Rattle.chain_search.proofs.Chaining.{next_below}
 use Rattle.chain_search.proofs.Sweeping.{walk_none, walk_more}
@@ -10,7 +9,7 @@ loop-link-init g c =
     let net = g.N.Network.meaning c.args.net.now in
     let threaded = c.requires.0 in
     let e = c.link_at-link.ensures in (
-      c.link_at-link.type-inv,
+      c.link_at-link.type_inv,
       λ k q. (threaded.chains.head c.args.way c.args.station k c.requires.1.1 (sym e ∙ q)).1,
       subst (λ k. Walks g.C.Cost.group g.C.Cost.worth g.C.Cost.size (λ d k l x. g.C.Cost.worth (g.F.Fees.cost c.args.fees.now d k l x)) net c.args.plan.now c.args.way c.args.station c.args.total k c.args.labels.now c.args.labels.now) (sym e)
           (walk_none g.C.Cost.group g.C.Cost.worth g.C.Cost.size (λ d k l x. g.C.Cost.worth (g.F.Fees.cost c.args.fees.now d k l x)) net c.args.plan.now c.args.chains.heads.now c.args.chains.nexts.now threaded.chains c.args.way c.args.station c.args.total c.args.labels.now),
@@ -37,7 +36,7 @@ loop-link-preserved g c =
     let on = c.loop-link.invariant.1 k e in
     let threaded = c.requires.0 in
     let f = c.link_at-link-in-loop-link.ensures in (
-      c.link_at-link-in-loop-link.type-inv,
+      c.link_at-link-in-loop-link.type_inv,
       λ i q. (threaded.chains.after c.args.way c.args.station k i on.joined.there on (sym f ∙ q)).1,
       subst (λ i. Walks g.C.Cost.group g.C.Cost.worth g.C.Cost.size (λ d k l x. g.C.Cost.worth (g.F.Fees.cost c.args.fees.now d k l x)) net c.args.plan.now c.args.way c.args.station c.args.total i c.args.labels.now c.relax_leg.new.labels) (sym f)
           (walk_more g.C.Cost.group g.C.Cost.worth g.C.Cost.size (λ d k l x. g.C.Cost.worth (g.F.Fees.cost c.args.fees.now d k l x)) net c.args.plan.now c.args.chains.heads.now c.args.chains.nexts.now threaded.chains c.args.way c.args.station c.args.total
