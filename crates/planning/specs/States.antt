@@ -19,7 +19,7 @@ use Rattle.chain_search.specs.Searches.{From}
 use Rattle.chain_search.specs.declared.label.Arrival.{Arrival}
 use Rattle.chain_search.specs.declared.label.Label.{Label}
 use Rattle.chain_search.specs.declared.chains.Links.{Links}
-use Rattle.pushing.specs.Sends.{Both, Known, SettledFor, planned, Tracks, Agrees}
+use Rattle.pushing.specs.Sends.{Both, Known, SettledFor, Tracks, Agrees}
 use Rattle.planning.specs.Reached.{reached_below}
 
 -- some potential shows that no plan with as much left over at each station is better; `over` bikes are over in all
