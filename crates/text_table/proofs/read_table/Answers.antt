@@ -26,4 +26,4 @@ returns c =
     let e = c.in_ok-nodes.ensures in
     let room : Room = record { stations = length c.args.stations.now; legs = length c.args.legs.now } in
     let h = held c.args.text.now room _ _ _ _ e.answer e.legs e.stations in
-    rw (sub-zero c.in_ok-nodes.nodes, sub-zero c.in_ok-nodes.arcs) (stands _ room _ _ _ _ h)
+    simp sub-zero (stands _ room _ _ _ _ h)
