@@ -7,11 +7,11 @@ ghost use Rattle.planning.specs.Planned.{lengths_of};
 ghost use Rattle.text_rules.specs.Reading.{reading};
 ghost use Rattle.plan_answers.specs.Printed.{whole_lengths, whole_room, PrintsNet, PrintsRead, Prints};
 
-mod lines;
+mod answer_lines;
 
+pub use answer_lines::{plan_text, refusal_text};
 use chain_search::{Label, Links};
 use costs::{Bikes, Cents, Pair};
-pub use lines::{plan_text, refusal_text};
 use network::Network;
 use planning::Tables;
 use records::{Leg, Station};
