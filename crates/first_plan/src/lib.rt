@@ -1,5 +1,7 @@
 // The plan to begin with: where the charge is 0 it keeps the standing amounts as far as the capacities in force go, and all
 // else is 0.
+#![tactic(auto)]
+
 ghost use Rattle.first_plan.specs.Begins.{Begins};
 
 mod laying;

@@ -12,7 +12,7 @@ use Rattle.network.specs.Nets.{Net}
 use Rattle.network.proofs.Places.{get_or_some}
 use Rattle.plans.specs.Plans.{leg_at, amount}
 use Rattle.planning.specs.Planned.{the_plan}
-use Rattle.plan_answers.specs.Printed.{cents_line, leg_line, leg_lines}
+use Rattle.plan_answers.specs.Printed.{leg_line}
 
 added_as : {X Y : Type 0} (r : Result X Y) (before after bs cs : List ℕ) → IfOk r (λ _. after ≡ before ++ bs) → bs ≡ cs
     → IfOk r (λ _. after ≡ before ++ cs)

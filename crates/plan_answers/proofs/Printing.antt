@@ -10,7 +10,7 @@ use Rattle.std.proofs.lemmas.List.{length-take-le}
 use Rattle.records.specs.Refusals.{number, place}
 use Rattle.records.specs.declared.refusal.Refusal.{Refusal}
 use Rattle.text_rules.specs.Reading.{reading}
-use Rattle.text_rules.specs.Stated.{StatedNetwork, States, Fitting, Refused, network_of}
+use Rattle.text_rules.specs.Stated.{StatedNetwork, States, Fitting, network_of}
 use Rattle.text_rules.specs.declared.progress.Room.{Room}
 use Rattle.text_rules.proofs.Legal.{legal}
 use Rattle.text_rules.proofs.Running.{Taken, taken_reading, refused_reading}

@@ -1,5 +1,5 @@
 -- The line that tells a refusal.
-use Rattle.std.proofs.Common.{◌≡◌, ℕ, List, [], ◌∷◌, ◌++◌, IfOk, Ok, Err, codes, Result, ap, ◌∙◌, subst}
+use Rattle.std.proofs.Common.{◌≡◌, ℕ, List, IfOk, Ok, Err, Result, ap, ◌∙◌}
 use Rattle.plan_answers.specs.Printed.{refusal_line}
 
 -- the numbers that were written are those of the refusal

@@ -1,15 +1,17 @@
 // What `vanplan` answers to a network text: the bytes that it prints.
+#![tactic(auto)]
+
 ghost use Rattle.std.specs.Prelude.{◌≡◌, length, IfOk, string_bytes};
 ghost use Rattle.checks.specs.Checks.{checked};
 ghost use Rattle.planning.specs.Planned.{lengths_of};
 ghost use Rattle.text_rules.specs.Reading.{reading};
 ghost use Rattle.plan_answers.specs.Printed.{whole_lengths, whole_room, PrintsNet, PrintsRead, Prints};
 
-mod lines;
+mod answer_lines;
 
+pub use answer_lines::{plan_text, refusal_text};
 use chain_search::{Label, Links};
 use costs::{Bikes, Cents, Pair};
-pub use lines::{plan_text, refusal_text};
 use network::Network;
 use planning::Tables;
 use records::{Leg, Station};

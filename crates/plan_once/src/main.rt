@@ -1,4 +1,6 @@
 // vanplan: reads one network text from standard input and prints the planner's answer to it.
+#![tactic(auto)]
+
 ghost use Rattle.std.specs.Prelude.{◌≤◌, length, IfOk};
 
 use plan_answers::answer_text;
@@ -26,5 +28,5 @@ fn main(rt: HostRuntime) -> io::Result<()> {
     let mut buffer = vec![in rt.alloc(); 0u8; 65537]?;
     let count = read_input(&rt, buffer.as_mut_slice())?;
     let answer = answer_text(rt.alloc(), &buffer[0..count])?;
-    print!(rt, "{answer}")
+    print!(rt; "{answer}")
 }

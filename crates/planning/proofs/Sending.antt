@@ -1,5 +1,5 @@
 -- Sendings to one station after another.
-use Rattle.std.proofs.Common.{◌≡◌, ℕ, zero, suc, ◌+◌, ◌-◌, ◌<◌, ◌≤◌, Bool, ◌⊎◌, List, length, get_or, take, ℤ, pos, negsuc, ◌≤ℤ◌, ◌<ℤ◌, sym, refl, ap, ◌∙◌, subst, inl, inr, arith}
+use Rattle.std.proofs.Common.{◌≡◌, ℕ, ◌+◌, ◌-◌, ◌<◌, ◌≤◌, Bool, ◌⊎◌, List, length, ℤ, pos, negsuc, ◌≤ℤ◌, ◌<ℤ◌, sym, refl, ap, ◌∙◌, subst, inl, inr, arith}
 use native.Mathlib.Decide.{ℕ_discrete}
 use borrow.Author.Differences.{ints}
 use Rattle.std.proofs.lemmas.List.{take_all}
@@ -11,7 +11,7 @@ use Rattle.certificates.specs.Totals.{all_over}
 use Rattle.chain_search.specs.Searches.{From}
 use Rattle.chain_search.specs.declared.label.Arrival.{Arrival}
 use Rattle.chain_search.specs.declared.label.Label.{Label}
-use Rattle.pushing.specs.Sends.{Both, Known, SettledFor, planned, Tracks, Agrees, Ready, Sends, Sent}
+use Rattle.pushing.specs.Sends.{Both, Known, SettledFor, planned, Tracks, Agrees, Ready, Sends}
 use Rattle.planning.specs.States.{SentAll, SentSome, SendsAll, SendsSome}
 
 -- a table that is as long as there are legs is the plan

@@ -1,7 +1,7 @@
 -- The reached stations are a cut, where bikes are over and no reached station lacks them.
-use Rattle.std.proofs.Common.{◌≡◌, ℕ, zero, suc, ◌+◌, ◌<◌, ◌≤◌, Bool, true, false, cond, ◌||◌, eqb, ◌⊎◌, List, [], ◌∷◌, ◌++◌, ℤ, pos, ◌≤ℤ◌, ◌<ℤ◌, Some, None, Option, sym, refl, ap, ◌∙◌, subst, inl, inr, arith}
+use Rattle.std.proofs.Common.{◌≡◌, ℕ, zero, suc, ◌<◌, Bool, true, false, cond, eqb, ◌⊎◌, List, [], ◌∷◌, ◌++◌, pos, ◌≤ℤ◌, ◌<ℤ◌, Some, None, Option, refl, inl, inr, arith}
 use native.Mathlib.Decide.{ℕ_discrete}
-use Rattle.std.specs.List.{AllByRecursion as All}
+use Rattle.std.specs.List.{AllByRecursion}
 use Rattle.std.proofs.ByRecursion.{All-append}
 use Rattle.std.proofs.lemmas.List.{append-nil}
 use Rattle.std.proofs.lemmas.Bool.{both_ways, eq-eqb, eqb-true, or_cases, or_right}
@@ -14,14 +14,13 @@ use Rattle.plans.specs.Cuts.{among, Cut, left_over, Uncrossed}
 use Rattle.plans.proofs.Cutting.{is_cut}
 use Rattle.chain_search.specs.Labels.{label_at}
 use Rattle.chain_search.specs.Searches.{Over, From, Settles}
-use Rattle.chain_search.specs.declared.label.Arrival.{Arrival}
 use Rattle.chain_search.specs.declared.label.Label.{Label}
-use Rattle.chain_search.proofs.Optional.{none_some, option_cases}
+use Rattle.chain_search.proofs.Optional.{option_cases}
 use Rattle.chain_search.proofs.Stepping.{ends}
 use Rattle.planning.specs.Reached.{is_there, reached, reached_below}
 
 -- ---- lists by rising number
-absent_above : (v : ℕ) (us : List ℕ) → All (λ u. u < v) us → Absent v us
+absent_above : (v : ℕ) (us : List ℕ) → AllByRecursion (λ u. u < v) us → Absent v us
 absent_above v [] h = tt
 absent_above v (u ∷ us) h = (λ e. omega (arith, h.0), absent_above v us h.1)
 
@@ -29,11 +28,11 @@ absent_more : (v w : ℕ) (us : List ℕ) → Absent v us → (v ≡ w → ⊥) 
 absent_more v w [] a n = (n, tt)
 absent_more v w (u ∷ us) a n = (a.0, absent_more v w us a.1 n)
 
-distinct_more : (w : ℕ) (us : List ℕ) → Distinct us → All (λ u. u < w) us → Distinct (us ++ (w ∷ []))
+distinct_more : (w : ℕ) (us : List ℕ) → Distinct us → AllByRecursion (λ u. u < w) us → Distinct (us ++ (w ∷ []))
 distinct_more w [] d h = (tt, tt)
 distinct_more w (u ∷ us) d h = (absent_more u w us d.0 (λ e. omega (arith, h.0)), distinct_more w us d.1 h.1)
 
-all_wider : (m : ℕ) (us : List ℕ) → All (λ u. u < m) us → All (λ u. u < suc m) us
+all_wider : (m : ℕ) (us : List ℕ) → AllByRecursion (λ u. u < m) us → AllByRecursion (λ u. u < suc m) us
 all_wider m [] h = tt
 all_wider m (u ∷ us) h = (omega (arith, h.0), all_wider m us h.1)
 
@@ -56,15 +55,15 @@ among_last v [] = rw (eq-eqb v v refl) refl
 among_last v (u ∷ us) = or_right (eqb v u) _ (among_last v us)
 
 module _ {C : Type 0} (ls : List (Label C)) where
-  rising_more : (i : ℕ) (us : List ℕ) (t : Bool) → All (λ u. u < i) us → All (λ u. u < suc i) (us ++ cond t (i ∷ []) [])
+  rising_more : (i : ℕ) (us : List ℕ) (t : Bool) → AllByRecursion (λ u. u < i) us → AllByRecursion (λ u. u < suc i) (us ++ cond t (i ∷ []) [])
   rising_more i us true h = All-append (λ u. u < suc i) us (i ∷ []) (all_wider i us h) (omega arith, tt)
   rising_more i us false h = All-append (λ u. u < suc i) us [] (all_wider i us h) tt
 
-  pub below_rising : (i : ℕ) → All (λ u. u < i) (reached_below ls i)
+  pub below_rising : (i : ℕ) → AllByRecursion (λ u. u < i) (reached_below ls i)
   below_rising zero = tt
   below_rising (suc i) = rising_more i (reached_below ls i) (reached ls i) (below_rising i)
 
-  different_more : (i : ℕ) (us : List ℕ) (t : Bool) → All (λ u. u < i) us → Distinct us → Distinct (us ++ cond t (i ∷ []) [])
+  different_more : (i : ℕ) (us : List ℕ) (t : Bool) → AllByRecursion (λ u. u < i) us → Distinct us → Distinct (us ++ cond t (i ∷ []) [])
   different_more i us true h d = distinct_more i us d h
   different_more i us false h d = rw (append-nil us) d
 

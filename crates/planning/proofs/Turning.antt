@@ -1,13 +1,13 @@
 -- One turn: what a search from the stations with bikes over shows, and what the sendings after it leave.
-use Rattle.std.proofs.Common.{◌≡◌, ℕ, zero, suc, ◌+◌, ◌<◌, ◌≤◌, Bool, true, false, T, ◌⊎◌, List, length, get_or, ℤ, pos, negsuc, ◌≤ℤ◌, ◌<ℤ◌, Some, None, Option, sym, refl, ap, ◌∙◌, subst, inl, inr, arith}
+use Rattle.std.proofs.Common.{◌≡◌, ℕ, zero, suc, ◌<◌, Bool, true, false, T, ◌⊎◌, List, get_or, ℤ, pos, negsuc, ◌≤ℤ◌, ◌<ℤ◌, Some, None, Option, sym, refl, ap, ◌∙◌, subst, inl, inr, arith}
 use borrow.Author.Differences.{ints}
 use lib.Signed.{lt_z}
 use Rattle.network.specs.Nets.{Net}
 use Rattle.theory.specs.Walks.{step, RoundTrip}
 use Rattle.plans.specs.Plans.{stations, sum_below, Fits, EndsBelow}
 use Rattle.plans.specs.Residuals.{Step, BothStep, both_group, Certifies}
-use Rattle.plans.specs.Cuts.{Cut, left_over}
-use Rattle.certificates.specs.Totals.{over, all_over}
+use Rattle.plans.specs.Cuts.{left_over}
+use Rattle.certificates.specs.Totals.{over}
 use Rattle.certificates.proofs.Raised
 use Rattle.steps.specs.Fees.{paid, both_worth}
 use Rattle.steps.proofs.Paying.{both_steps}
@@ -18,8 +18,8 @@ use Rattle.chain_search.specs.declared.label.Label.{Label}
 use Rattle.chain_search.specs.declared.outcome.Outcome.TheVariants.{RoundTrip as Trip}
 use Rattle.chain_search.proofs.Optional.{option_cases}
 use Rattle.chain_search.proofs.Stepping.{ends}
-use Rattle.pushing.specs.Sends.{Both, worth_of, Known, SettledFor, planned, Tracks, Agrees}
-use Rattle.planning.specs.Reached.{is_there, reached, reached_below}
+use Rattle.pushing.specs.Sends.{Both, worth_of, SettledFor, Agrees}
+use Rattle.planning.specs.Reached.{reached}
 use Rattle.planning.specs.States.{Underway, Marks, SentAll, Turned}
 use Rattle.planning.proofs.Showing.{there, shows_cut}
 use Rattle.planning.proofs.Sending.{exact}

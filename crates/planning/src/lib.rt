@@ -1,4 +1,6 @@
 // Planning: the cheapest plan, among those the nearest to the standing plan, or a cut.
+#![tactic(auto)]
+
 ghost use Rattle.std.specs.Prelude.{◌≡◌, ◌≤◌, length, pos};
 ghost use Rattle.certificates.specs.Totals.{total_below};
 ghost use Rattle.plans.specs.Plans.{CheapestThenNearest, EndsBelow, balance_at, stations as count_of};

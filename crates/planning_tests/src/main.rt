@@ -1,5 +1,7 @@
 // Plans on small and large networks, and prints what each planning answers and leaves in the slices.
 // The lines are compared with the file `stdout`.
+#![tactic(auto)]
+
 mod desk;
 mod generator;
 mod limits;

@@ -1,10 +1,10 @@
 -- Bikes that go along last steps, one by one.
-use Rattle.std.proofs.Common.{◌≡◌, ℕ, ◌+◌, ◌-◌, ◌<◌, ◌≤◌, min, Bool, ◌⊎◌, List, length, take, drop, set, ℤ, Some, None, Option, sym, refl, ap, ◌∙◌, subst, inl, inr, arith, length-set}
+use Rattle.std.proofs.Common.{◌≡◌, ℕ, ◌+◌, ◌-◌, ◌<◌, ◌≤◌, min, Bool, List, length, take, drop, set, ℤ, Some, None, Option, sym, refl, ap, ◌∙◌, subst, inl, inr, arith, length-set}
 use Rattle.std.proofs.lemmas.List.{drop-set-lt, get_or-take}
 use Rattle.network.specs.Nets.{Net}
 use Rattle.plans.specs.Plans.{stations, leg_at, amount, in_force, Fits}
 use Rattle.plans.specs.Residuals.{both_group, Certifies}
-use Rattle.certificates.specs.Pushes.{more, fewer, Sent}
+use Rattle.certificates.specs.Pushes.{Sent}
 use Rattle.certificates.proofs.Kept.{rooms}
 use Rattle.certificates.proofs.Moved.{unsent, up_to_there}
 use Rattle.chain_search.specs.declared.label.Last.{Last}
@@ -12,7 +12,7 @@ use Rattle.chain_search.specs.declared.label.Last.TheVariants.{Start, Forth, Bac
 use Rattle.chain_search.specs.declared.label.Arrival.{Arrival}
 use Rattle.chain_search.specs.declared.label.Label.{Label}
 use Rattle.chain_search.proofs.Optional.{none_some, some_same}
-use Rattle.pushing.specs.Sends.{Both, worth_of, Known, SettledFor, planned, Agrees}
+use Rattle.pushing.specs.Sends.{Both, Known, SettledFor, planned, Agrees}
 use Rattle.pushing.specs.Routes.{Leads, room_over, toll, shifted, Link, Route, begins, goes, Steps, StepsInto, Along}
 use Rattle.pushing.proofs.Routing.{from_below, ordered, Ordered, route_below, step_sent, step_kept, rest_at, take_set_in}
 

@@ -1,5 +1,5 @@
 -- Last steps followed back, one by one.
-use Rattle.std.proofs.Common.{◌≡◌, ℕ, suc, ◌+◌, ◌-◌, ◌<◌, ◌≤◌, min, Bool, cond, ltb, ◌⊎◌, List, length, ℤ, Some, None, sym, refl, ap, ◌∙◌, subst, inl, inr, arith}
+use Rattle.std.proofs.Common.{◌≡◌, ℕ, ◌+◌, ◌-◌, ◌<◌, ◌≤◌, min, Bool, cond, ltb, List, ℤ, Some, None, ap, ◌∙◌, subst, inl, inr, arith}
 use Rattle.std.proofs.lemmas.Bool.Decides.{nat_tests}
 use Rattle.network.specs.Nets.{Net}
 use Rattle.plans.specs.Plans.{stations, leg_at, amount, in_force}
@@ -10,12 +10,10 @@ use Rattle.chain_search.specs.declared.label.Last.{Last}
 use Rattle.chain_search.specs.declared.label.Last.TheVariants.{Start, Forth, Back}
 use Rattle.chain_search.specs.declared.label.Arrival.{Arrival}
 use Rattle.chain_search.specs.declared.label.Label.{Label}
-use Rattle.chain_search.proofs.Optional.{some_same}
 use Rattle.steps.proofs.Paying.{paid_both}
-use Rattle.pushing.specs.Sends.{Both, Known, SettledFor, SameAmounts}
-use Rattle.pushing.specs.Routes.{Leads, room_over, toll, Link, Route, begins, goes, Sees, Finds}
+use Rattle.pushing.specs.Sends.{Both, Known, SettledFor}
+use Rattle.pushing.specs.Routes.{room_over, toll, Route, begins, goes, Sees, Finds}
 use Rattle.pushing.specs.declared.looks.Sight.TheVariants.{Lost, Begun, Came}
-use Rattle.pushing.specs.declared.measures.Reach.{Reach}
 use Rattle.pushing.proofs.Routing.{leads_of, from_below, leg_of, leg_there, same_over, ordered, link_less}
 
 -- ---- a step of the plan that labels are of

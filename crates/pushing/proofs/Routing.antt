@@ -1,5 +1,5 @@
 -- Routes of last steps, and what bikes that go along one step leave of them.
-use Rattle.std.proofs.Common.{◌≡◌, ℕ, zero, suc, ◌+◌, ◌-◌, ◌<◌, ◌≤◌, min, Bool, cond, ltb, leb, ◌≢◌, ◌⊎◌, List, [], ◌∷◌, length, take, set, ℤ, pos, negsuc, sym, refl, ap, ◌∙◌, subst, inl, inr, arith, get_or-set_other}
+use Rattle.std.proofs.Common.{◌≡◌, ℕ, zero, suc, ◌+◌, ◌-◌, ◌<◌, ◌≤◌, min, Bool, cond, ltb, leb, ◌≢◌, List, [], ◌∷◌, length, take, set, ℤ, pos, negsuc, sym, refl, ap, ◌∙◌, subst, inl, inr, arith, get_or-set_other}
 use Rattle.network.specs.Nets.{Net}
 use Rattle.plans.specs.Plans.{stations, leg_at, amount, in_force, Fits}
 use Rattle.plans.specs.Residuals.{Direction, forth, back, step_cents, both_group, Certifies}
@@ -12,8 +12,7 @@ use Rattle.chain_search.specs.declared.label.Last.{Last}
 use Rattle.chain_search.specs.declared.label.Last.TheVariants.{Start, Forth, Back}
 use Rattle.chain_search.specs.declared.label.Arrival.{Arrival}
 use Rattle.chain_search.specs.declared.label.Label.{Label}
-use Rattle.chain_search.proofs.Optional.{some_same}
-use Rattle.pushing.specs.Sends.{Both, Known, SettledFor, planned}
+use Rattle.pushing.specs.Sends.{Both, Known, SettledFor}
 use Rattle.pushing.specs.Routes.{Leads, room_over, toll, shifted, Link, Route, begins, goes}
 use Rattle.pushing.proofs.Seeing.{one_from, no_start}
 
@@ -26,7 +25,7 @@ leads_of net plan cost (Back k) u v c t = (t.0, t.1, t.2)
 pub from_below : (net : Net) (l : Last) (u v : ℕ) → Leads net l u v → u < stations net
 from_below net Start u v p = absurd p
 from_below net (Forth k) u v p = subst (λ w. w < stations net) p.1 p.0.start_below
-from_below net (Back k) u v p = subst (λ w. w < stations net) p.1 p.0.end_Below
+from_below net (Back k) u v p = subst (λ w. w < stations net) p.1 p.0.end_below
 
 abbrev pub leg_of : Last → ℕ
 leg_of Start = 0

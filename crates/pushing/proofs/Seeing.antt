@@ -1,5 +1,5 @@
 -- What is to be seen at a station.
-use Rattle.std.proofs.Common.{◌≡◌, ℕ, ◌<◌, ◌≤◌, Bool, true, false, ◌⊎◌, List, ℤ, ◌+ℤ◌, Some, None, Decides, sym, refl, ap, ◌∙◌, subst, inl, inr, arith, w64, SFits, to_z, of_z}
+use Rattle.std.proofs.Common.{◌≡◌, ℕ, ◌<◌, Bool, false, List, ℤ, ◌+ℤ◌, Some, Decides, sym, ap, ◌∙◌, subst, arith, w64, SFits, to_z, of_z}
 use Rattle.std.proofs.lemmas.Int.{to_z-of_z}
 use Rattle.std.proofs.lemmas.Bool.{both_ways}
 use Rattle.network.specs.Nets.{Net}
@@ -12,8 +12,8 @@ use Rattle.chain_search.specs.declared.label.Arrival.{Arrival}
 use Rattle.chain_search.specs.declared.label.Label.{Label}
 use Rattle.chain_search.proofs.Optional.{some_same}
 use Rattle.pushing.specs.Sends.{Both, Known}
-use Rattle.pushing.specs.Routes.{Leads, Link, Quotes, Sees}
-use Rattle.pushing.specs.declared.looks.Sight.TheVariants.{Lost, Begun, Came}
+use Rattle.pushing.specs.Routes.{Leads, Quotes, Sees}
+use Rattle.pushing.specs.declared.looks.Sight.TheVariants.{Lost, Came}
 use Rattle.pushing.specs.declared.quotes.Quote.{Quote}
 
 -- a step has one end at each side

@@ -1,19 +1,18 @@
 -- What a sending does to a plan and to what is left over.
-use Rattle.std.proofs.Common.{◌≡◌, ℕ, ◌+◌, ◌<◌, ◌≤◌, Bool, ◌≢◌, ◌⊎◌, List, length, get_or, drop, set, ℤ, pos, ◌+ℤ◌, ◌-ℤ◌, ◌≤ℤ◌, ◌<ℤ◌, Some, None, sym, refl, ap, ◌∙◌, subst, inl, inr, arith, length-set, get_or-set_other, get_or-set_same, w64, SFits, to_z, of_z}
+use Rattle.std.proofs.Common.{◌≡◌, ℕ, ◌<◌, ◌≤◌, Bool, ◌≢◌, List, length, get_or, drop, set, ℤ, pos, ◌+ℤ◌, ◌-ℤ◌, ◌≤ℤ◌, ◌<ℤ◌, None, sym, refl, ap, ◌∙◌, subst, inl, inr, arith, length-set, get_or-set_other, get_or-set_same, w64, SFits, to_z, of_z}
 use native.Mathlib.Decide.{ℕ_discrete}
 use borrow.Author.Differences.{ints}
 use Rattle.std.proofs.lemmas.List.{drop-set-lt, get_or_past, get_or-take}
 use Rattle.std.proofs.lemmas.Int.{to_z-of_z}
 use Rattle.std.proofs.lemmas.Bool.{cases_lt}
 use Rattle.network.specs.Nets.{Net}
-use Rattle.plans.specs.Plans.{stations, amount}
+use Rattle.plans.specs.Plans.{stations}
 use Rattle.plans.specs.Cuts.{left_over}
 use Rattle.certificates.specs.Pushes
 use Rattle.certificates.proofs.Moved.{lowers_over}
 use Rattle.chain_search.specs.declared.label.Label.{Label}
 use Rattle.pushing.specs.Sends.{Both, SettledFor, planned, Tracks, Sent, Ready, Sends}
 use Rattle.pushing.specs.Routes.{Route, Finds, Along}
-use Rattle.pushing.specs.declared.measures.Reach.{Reach}
 use Rattle.pushing.proofs.Routing.{leg_of, leg_there, route_below, route_start, start_below, route_less, route_at}
 
 -- an entry that is not 0 is there
@@ -58,8 +57,8 @@ module _ (net : Net) (standing : List ℕ) (ls : List (Label Both)) (target : �
         let z = q (p h has) lacks in
         omega (arith, z, e))
 
-    module _ (b : ℕ) (after : List ℕ) (left_After : List ℤ) (fits : b ≤ room) (some : 0 < b) (has : pos b ≤ℤ get_or left s (pos 0)) (lacks : (get_or left target (pos 0) +ℤ pos b) ≤ℤ pos 0) (along : Along net ls b target plan after)
-        (written : left_After ≡ set (set left s (get_or left s (pos 0) -ℤ pos b)) target (get_or left target (pos 0) +ℤ pos b)) where
+    module _ (b : ℕ) (after : List ℕ) (left_after : List ℤ) (fits : b ≤ room) (some : 0 < b) (has : pos b ≤ℤ get_or left s (pos 0)) (lacks : (get_or left target (pos 0) +ℤ pos b) ≤ℤ pos 0) (along : Along net ls b target plan after)
+        (written : left_after ≡ set (set left s (get_or left s (pos 0) -ℤ pos b)) target (get_or left target (pos 0) +ℤ pos b)) where
       ends : s ≡ target → ⊥
       ends = apart_ends left s target b some has lacks
 
@@ -67,16 +66,16 @@ module _ (net : Net) (standing : List ℕ) (ls : List (Label Both)) (target : �
       route_in : Route net standing (planned net plan) ls b target s
       route_in = route_at (planned net plan) (λ _. Unit {0}) (λ u v x q h k p. (tt, sym (get_or-take (length net.legs) plan (leg_of x.last) 0 (leg_there net x.last u v p)))) (route_less fits route) tt
 
-      at_target : get_or left_After target (pos 0) ≡ get_or left target (pos 0) +ℤ pos b
+      at_target : get_or left_after target (pos 0) ≡ get_or left target (pos 0) +ℤ pos b
       at_target =
           let h : target < length (set left s (get_or left s (pos 0) -ℤ pos b)) = omega (arith, length-set left s (get_or left s (pos 0) -ℤ pos b), lack_there left target b some lacks) in
           rw written (get_or-set_same (set left s (get_or left s (pos 0) -ℤ pos b)) target (get_or left target (pos 0) +ℤ pos b) (pos 0) h)
 
-      at_other : (v : ℕ) → v ≢ target → get_or left_After v (pos 0) ≡ get_or (set left s (get_or left s (pos 0) -ℤ pos b)) v (pos 0)
+      at_other : (v : ℕ) → v ≢ target → get_or left_after v (pos 0) ≡ get_or (set left s (get_or left s (pos 0) -ℤ pos b)) v (pos 0)
       at_other v h = rw written (get_or-set_other (set left s (get_or left s (pos 0) -ℤ pos b)) target v (get_or left target (pos 0) +ℤ pos b) (pos 0) h)
 
       -- what is left over after it, by what was left over before it
-      left_is : Pushes.Sent net (planned net plan) (planned net after) b s target → ((v : ℕ) → v < stations net → get_or left v (pos 0) ≡ left_over net (planned net plan) v) → (v : ℕ) → v < stations net → get_or left_After v (pos 0) ≡ left_over net (planned net after) v
+      left_is : Pushes.Sent net (planned net plan) (planned net after) b s target → ((v : ℕ) → v < stations net → get_or left v (pos 0) ≡ left_over net (planned net plan) v) → (v : ℕ) → v < stations net → get_or left_after v (pos 0) ≡ left_over net (planned net after) v
       left_is q t v h =
           elim (ℕ_discrete v target) [
             | yes e ↦ rw e (at_target ∙ ap (λ y. y +ℤ pos b) (t target (route_below route)) ∙ sym (q.last ends))
@@ -86,7 +85,7 @@ module _ (net : Net) (standing : List ℕ) (ls : List (Label Both)) (target : �
             ]
           ]
 
-      sent_by : (old : List ℕ) (f : ℕ → Bool) → SettledFor net standing old f ls → Tracks net plan left → Sent net standing ls b plan after left_After
+      sent_by : (old : List ℕ) (f : ℕ → Bool) → SettledFor net standing old f ls → Tracks net plan left → Sent net standing ls b plan after left_after
       sent_by old f z t =
           let q = along.sent standing old f s z t.fits route_in in
           record {
@@ -95,7 +94,7 @@ module _ (net : Net) (standing : List ℕ) (ls : List (Label Both)) (target : �
             lower = lowers_over net (planned net plan) (planned net after) b s target q.0 (start_below route) ends (subst (λ y. pos b ≤ℤ y) (t.left_overs s (start_below route)) has) (subst (λ y. (y +ℤ pos b) ≤ℤ pos 0) (t.left_overs target (route_below route)) lacks);
           }
 
-      pub sends_some : Sends net standing ls target b plan after left left_After
+      pub sends_some : Sends net standing ls target b plan after left left_after
       sends_some =
           record {
             plan_long = along.long;

@@ -14,7 +14,7 @@
 use Rattle.std.specs.Prelude.{◌≡◌, ℕ, ◌+◌, ◌<◌, ◌≤◌, min, Bool, ◌⊎◌, List, length, drop, ℤ, pos, Some, None, Option, ◌≢◌, slice_set}
 use Rattle.network.specs.Nets.{Net}
 use Rattle.plans.specs.Plans.{stations, leg_at, amount, in_force, Fits}
-use Rattle.plans.specs.Residuals.{Direction, forth, back, Joined, step_both, both_group, Certifies}
+use Rattle.plans.specs.Residuals.{forth, back, Joined, step_both, both_group, Certifies}
 use Rattle.certificates.specs.Pushes.{more, fewer, room_forth, room_back}
 use Rattle.certificates.specs.Pushes
 use Rattle.chain_search.specs.declared.label.Last.{Last}

@@ -10,7 +10,7 @@
 --   Sent          what holds after bikes were sent
 --   Ready         labels and left overs by which at least one bike can be sent
 --   Sends         what a sending does
-use Rattle.std.specs.Prelude.{◌≡◌, ℕ, ◌+◌, ◌<◌, Bool, true, List, length, take, drop, ℤ, pos, ◌<ℤ◌, Some, slice_index_or}
+use Rattle.std.specs.Prelude.{◌≡◌, ℕ, ◌+◌, ◌<◌, Bool, List, length, take, drop, ℤ, pos, ◌<ℤ◌, Some, slice_index_or}
 use Rattle.costs.specs.declared.bikes.Bikes.{Bikes}
 use Rattle.costs.specs.declared.cents.Cents.{Cents}
 use Rattle.costs.specs.declared.pair.Pair.{Pair}
@@ -68,11 +68,11 @@ pub record Ready (net : Net) (standing old : List ℕ) (f : ℕ → Bool) (ls : 
   pub over : (v : ℕ) → From net f v → pos 0 <ℤ left_over net (planned net plan) v
 
 -- b bikes were sent; amounts beyond the legs and left overs beyond the stations stay
-pub record Sends (net : Net) (standing : List ℕ) (ls : List (Label Both)) (target b : ℕ) (plan after : List ℕ) (left left_After : List ℤ) : Type 0 where
+pub record Sends (net : Net) (standing : List ℕ) (ls : List (Label Both)) (target b : ℕ) (plan after : List ℕ) (left left_after : List ℤ) : Type 0 where
   pub plan_long : length after ≡ length plan
-  pub left_long : length left_After ≡ length left
+  pub left_long : length left_after ≡ length left
   pub plan_beyond : drop (length net.legs) after ≡ drop (length net.legs) plan
-  pub left_beyond : drop (stations net) left_After ≡ drop (stations net) left
-  pub none : b ≡ 0 → (after ≡ plan) × (left_After ≡ left)
-  pub sent : (old : List ℕ) (f : ℕ → Bool) → SettledFor net standing old f ls → Tracks net plan left → Sent net standing ls b plan after left_After
+  pub left_beyond : drop (stations net) left_after ≡ drop (stations net) left
+  pub none : b ≡ 0 → (after ≡ plan) × (left_after ≡ left)
+  pub sent : (old : List ℕ) (f : ℕ → Bool) → SettledFor net standing old f ls → Tracks net plan left → Sent net standing ls b plan after left_after
   pub some : (old : List ℕ) (f : ℕ → Bool) → SettledFor net standing old f ls → Tracks net plan left → Ready net standing old f ls target plan → 0 < b

@@ -1,4 +1,6 @@
 // Sends bikes to a station along the last steps of settled labels.
+#![tactic(auto)]
+
 ghost use Rattle.pushing.specs.Sends.{Sends};
 
 mod lefts;

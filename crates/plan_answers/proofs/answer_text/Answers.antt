@@ -6,8 +6,8 @@ use Rattle.plan_answers.proofs.answer_text.Goals as goal
 pub returns-in_err-stations : goal.returns-in_err-stations
 returns-in_err-stations c =
     record {
-      bytes = IfOk-from_err c.from-residual-in_err-stations.result _ c.from-residual-in_err-stations.ensures.0;
-      prints = IfOk-from_err c.from-residual-in_err-stations.result _ c.from-residual-in_err-stations.ensures.0;
+      bytes = IfOk-from_err c.from_residual-in_err-stations.result _ c.from_residual-in_err-stations.ensures.0;
+      prints = IfOk-from_err c.from_residual-in_err-stations.result _ c.from_residual-in_err-stations.ensures.0;
     }
 
 pub returns : goal.returns

@@ -1,4 +1,4 @@
-use Rattle.std.proofs.Common.{◌≡◌, ◌≤◌, true, false, length, refl, ◌∙◌, subst, arith}
+use Rattle.std.proofs.Common.{◌≤◌, length, refl, ◌∙◌, subst, arith}
 use Rattle.plans.specs.Plans.{stations, CheapestThenNearest}
 use Rattle.planning.specs.Reached.{WritesCut}
 use Rattle.planning.specs.States.{TurnsEnd}

@@ -1,4 +1,4 @@
-use Rattle.std.proofs.Common.{◌≡◌, ◌<◌, ◌≤◌, get_or, set, ℤ, pos, ◌+ℤ◌, ◌-ℤ◌, ◌≤ℤ◌, sym, ap, ◌∙◌, subst, arith, w64, SFits, to_z, of_z, rules}
+use Rattle.std.proofs.Common.{◌≡◌, ◌<◌, ◌≤◌, get_or, set, pos, ◌+ℤ◌, ◌-ℤ◌, ◌≤ℤ◌, sym, ap, ◌∙◌, subst, arith, w64, SFits, rules}
 use Rattle.pushing.specs.Sends.{Sends}
 use Rattle.pushing.proofs.Sending.{over_there, shown_at, has_of, lacks_of, over_of, under_of, lacks_still, never_lost, never_spent, sends_some}
 use Rattle.pushing.proofs.send.Goals as goal

@@ -1,4 +1,4 @@
-use Rattle.std.proofs.Common.{◌≡◌, refl, arith, rules}
+use Rattle.std.proofs.Common.{refl, arith}
 use Rattle.planning.proofs.Gathering.{gathered_none, gathered_next, gathered_all}
 use Rattle.planning.proofs.cut.write_cut.Goals as goal
 

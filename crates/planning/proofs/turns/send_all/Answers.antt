@@ -1,4 +1,4 @@
-use Rattle.std.proofs.Common.{◌≡◌, ◌+◌, sym, refl, ◌∙◌, subst, arith, rules}
+use Rattle.std.proofs.Common.{◌+◌, sym, refl, ◌∙◌, subst, arith}
 use Rattle.planning.proofs.Sending.{Sending, sending_none, sending_more, sending_all}
 use Rattle.planning.proofs.turns.send_all.Goals as goal
 

@@ -1,4 +1,4 @@
-use Rattle.std.proofs.Common.{◌≡◌, sym, refl, ◌∙◌, subst}
+use Rattle.std.proofs.Common.{sym, refl, ◌∙◌, subst}
 use Rattle.planning.specs.States.{SentSome}
 use Rattle.planning.proofs.Sending.{some_none, some_more}
 use Rattle.planning.proofs.turns.send_nearest.Goals as goal

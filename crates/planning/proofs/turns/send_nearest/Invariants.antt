@@ -1,6 +1,3 @@
-use Rattle.std.proofs.Common.{◌≡◌, ℕ, Bool, length}
-use Rattle.certificates.specs.Totals.{all_over}
-use Rattle.pushing.specs.Sends.{SettledFor, Tracks}
 use Rattle.planning.specs.States.{SendsSome}
 use Rattle.planning.proofs.turns.send_nearest.Given as goal
 

@@ -1,4 +1,4 @@
-use Rattle.std.proofs.Common.{◌≡◌, false, get_or, subst}
+use Rattle.std.proofs.Common.{false, get_or, subst}
 use Rattle.plans.specs.Plans.{stations}
 use Rattle.plans.specs.Residuals.{both_group}
 use Rattle.steps.specs.Fees.{both_worth}

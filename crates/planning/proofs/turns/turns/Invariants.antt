@@ -1,4 +1,3 @@
-use Rattle.std.proofs.Common.{◌<◌}
 use Rattle.planning.specs.States.{Roomy, Underway}
 use Rattle.planning.proofs.turns.turns.Given as goal
 

@@ -1,4 +1,4 @@
-use Rattle.std.proofs.Common.{◌≡◌, ◌<◌, ◌≤◌, true, false, ◌⊎◌, sym, ◌∙◌, arith, w64, SFits, to_z, of_z, rules}
+use Rattle.std.proofs.Common.{◌≡◌, ◌<◌, sym, arith, w64, SFits, rules}
 use Rattle.plans.specs.Plans.{stations}
 use Rattle.pushing.proofs.Seeing.{seen_none, seen_came, shown_sum, shown_no_sum}
 use Rattle.pushing.proofs.looks.look.Goals as goal

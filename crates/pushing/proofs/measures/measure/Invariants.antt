@@ -5,4 +5,4 @@ use Rattle.pushing.proofs.measures.measure.Given as goal
 
 -- the last steps from the station on have room
 abbrev pub invariant-loop-turn : goal.invariant-loop-turn
-invariant-loop-turn g l = (l.-turn-end ≡ stations (g.N.Network.meaning l.net)) × Measuring (g.N.Network.meaning l.net) l.standing l.plan l.labels l.target l.-turn l.at l.room
+invariant-loop-turn g l = (l._turn-end ≡ stations (g.N.Network.meaning l.net)) × Measuring (g.N.Network.meaning l.net) l.standing l.plan l.labels l.target l._turn l.at l.room

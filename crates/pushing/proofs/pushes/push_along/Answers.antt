@@ -7,19 +7,19 @@ pub loop-turn-init : goal.loop-turn-init
 loop-turn-init g c = (c.stations-turn-end.ensures, going_none (g.N.Network.meaning c.args.net.now) c.args.labels.now c.args.bikes c.args.target c.args.plan.now)
 
 pub loop-turn-preserved : goal.loop-turn-preserved
-loop-turn-preserved g c = (c.loop-turn.invariant.0, going_more (g.N.Network.meaning c.args.net.now) c.args.labels.now c.args.bikes c.args.target c.args.plan.now c.loop-turn.-turn c.loop-turn.at c.in-Some.from c.loop-turn.plan c.push_into.new.plan c.loop-turn.invariant.1 c.in-Some.ensures)
+loop-turn-preserved g c = (c.loop-turn.invariant.0, going_more (g.N.Network.meaning c.args.net.now) c.args.labels.now c.args.bikes c.args.target c.args.plan.now c.loop-turn._turn c.loop-turn.at c.in-Some.from c.loop-turn.plan c.push_into.new.plan c.loop-turn.invariant.1 c.in-Some.ensures)
 
 pub returns-in-None : goal.returns-in-None
-returns-in-None g c = going_stop (g.N.Network.meaning c.args.net.now) c.args.labels.now c.args.bikes c.args.target c.args.plan.now c.loop-turn.-turn c.loop-turn.at c.loop-turn.plan c.push_into.new.plan c.loop-turn.invariant.1 c.in-None.ensures
+returns-in-None g c = going_stop (g.N.Network.meaning c.args.net.now) c.args.labels.now c.args.bikes c.args.target c.args.plan.now c.loop-turn._turn c.loop-turn.at c.loop-turn.plan c.push_into.new.plan c.loop-turn.invariant.1 c.in-None.ensures
 
 pub returns-in-Some : goal.returns-in-Some
 returns-in-Some g c =
     let net = g.N.Network.meaning c.args.net.now in
-    let m = going_more net c.args.labels.now c.args.bikes c.args.target c.args.plan.now c.loop-turn.-turn c.loop-turn.at c.in-Some.from c.loop-turn.plan c.push_into.new.plan c.loop-turn.invariant.1 c.in-Some.ensures in
-    let h : stations net < c.loop-turn.-turn + 1 = omega (arith, c.loop-turn.invariant.0) in
-    going_end net c.args.labels.now c.args.bikes c.args.target c.args.plan.now (c.loop-turn.-turn + 1) c.in-Some.from c.push_into.new.plan h m
+    let m = going_more net c.args.labels.now c.args.bikes c.args.target c.args.plan.now c.loop-turn._turn c.loop-turn.at c.in-Some.from c.loop-turn.plan c.push_into.new.plan c.loop-turn.invariant.1 c.in-Some.ensures in
+    let h : stations net < c.loop-turn._turn + 1 = omega (arith, c.loop-turn.invariant.0) in
+    going_end net c.args.labels.now c.args.bikes c.args.target c.args.plan.now (c.loop-turn._turn + 1) c.in-Some.from c.push_into.new.plan h m
 
 pub returns : goal.returns
 returns g c =
-    let h : stations (g.N.Network.meaning c.args.net.now) < c.loop-turn.-turn = omega (arith, c.loop-turn.invariant.0) in
-    going_end (g.N.Network.meaning c.args.net.now) c.args.labels.now c.args.bikes c.args.target c.args.plan.now c.loop-turn.-turn c.loop-turn.at c.loop-turn.plan h c.loop-turn.invariant.1
+    let h : stations (g.N.Network.meaning c.args.net.now) < c.loop-turn._turn = omega (arith, c.loop-turn.invariant.0) in
+    going_end (g.N.Network.meaning c.args.net.now) c.args.labels.now c.args.bikes c.args.target c.args.plan.now c.loop-turn._turn c.loop-turn.at c.loop-turn.plan h c.loop-turn.invariant.1

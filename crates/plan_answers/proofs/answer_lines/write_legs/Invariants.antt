@@ -1,7 +1,7 @@
 -- What the loop over the legs keeps.
 use Rattle.std.proofs.Common.{◌≡◌, ◌++◌, string_bytes}
 use Rattle.plan_answers.proofs.Adding.{lines_below}
-use Rattle.plan_answers.proofs.lines.write_legs.Given as goal
+use Rattle.plan_answers.proofs.answer_lines.write_legs.Given as goal
 
 -- the lines of the legs so far are written
 abbrev pub invariant-loop-number : goal.invariant-loop-number

@@ -1,6 +1,6 @@
 use Rattle.std.proofs.Common.{string_bytes}
 use Rattle.plan_answers.proofs.Adding.{plan_added}
-use Rattle.plan_answers.proofs.lines.write_plan.Goals as goal
+use Rattle.plan_answers.proofs.answer_lines.write_plan.Goals as goal
 
 pub returns : goal.returns
 returns g c =

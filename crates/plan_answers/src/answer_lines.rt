@@ -7,7 +7,6 @@ ghost use Rattle.plan_answers.specs.Printed.{refusal_line, cents_line, leg_line,
 use network::Network;
 use records::{Leg, Refusal};
 use std::alloc::{AllocError, Global};
-use std::fmt;
 use steps::amount_at;
 
 // The ID of a station, by its number.
@@ -18,7 +17,7 @@ fn id_of(station: u16) -> u32
 }
 
 // Appends the line of a leg and its bikes.
-fn write_leg(out: &mut String, leg: &Leg, bikes: u16) -> fmt::Result
+fn write_leg(out: &mut String, leg: &Leg, bikes: u16) -> Result<(), AllocError>
     ensures { OnOk result (string_bytes out.new ≡ string_bytes out.old ++ leg_line leg.now bikes) }
 {
     let source = id_of(leg.start);
@@ -27,12 +26,12 @@ fn write_leg(out: &mut String, leg: &Leg, bikes: u16) -> fmt::Result
 }
 
 // Appends the line of each leg of a network, with its bikes.
-fn write_legs<N: Network>(out: &mut String, net: &N, amounts: &[u16]) -> fmt::Result
+fn write_legs<N: Network>(out: &mut String, net: &N, amounts: &[u16]) -> Result<(), AllocError>
     ensures { OnOk result (string_bytes out.new ≡ string_bytes out.old ++ leg_lines (N.Network.meaning net.now) (the_plan (N.Network.meaning net.now) amounts.now)) }
 {
     for number in 0..net.legs() {
         let Some(leg) = net.leg(number) else {
-            return Err(fmt::Error);
+            return Ok(());
         };
         write_leg(out, &leg, amount_at(amounts, number))?;
     }
@@ -40,7 +39,12 @@ fn write_legs<N: Network>(out: &mut String, net: &N, amounts: &[u16]) -> fmt::Re
 }
 
 // Appends what a plan costs, and the line of each leg.
-fn write_plan<N: Network>(out: &mut String, net: &N, cents: u64, amounts: &[u16]) -> fmt::Result
+fn write_plan<N: Network>(
+    out: &mut String,
+    net: &N,
+    cents: u64,
+    amounts: &[u16],
+) -> Result<(), AllocError>
     ensures { OnOk result (string_bytes out.new ≡ string_bytes out.old ++ (cents_line cents ++ leg_lines (N.Network.meaning net.now) (the_plan (N.Network.meaning net.now) amounts.now))) }
 {
     writeln!(out, "s {cents}")?;
@@ -57,10 +61,8 @@ pub fn plan_text<N: Network>(
     ensures { IfOk result (λ s. string_bytes s ≡ cents_line cents ++ leg_lines (N.Network.meaning net.now) (the_plan (N.Network.meaning net.now) amounts.now)) }
 {
     let mut out = String::new(heap);
-    match write_plan(&mut out, net, cents, amounts) {
-        Ok(()) => Ok(out),
-        Err(_) => Err(AllocError),
-    }
+    write_plan(&mut out, net, cents, amounts)?;
+    Ok(out)
 }
 
 // The line that tells a refusal.

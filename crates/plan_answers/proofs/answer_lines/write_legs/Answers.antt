@@ -1,7 +1,7 @@
 -- One leg more.
 use Rattle.std.proofs.Common.{arith}
 use Rattle.plan_answers.proofs.Adding.{legs_added}
-use Rattle.plan_answers.proofs.lines.write_legs.Goals as goal
+use Rattle.plan_answers.proofs.answer_lines.write_legs.Goals as goal
 
 pub loop-number-preserved : goal.loop-number-preserved
 loop-number-preserved g c =

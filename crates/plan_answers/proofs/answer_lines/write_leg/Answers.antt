@@ -1,7 +1,7 @@
 -- What is written is the line of the leg.
 use Rattle.std.proofs.Common.{string_bytes}
 use Rattle.plan_answers.proofs.Adding.{leg_added}
-use Rattle.plan_answers.proofs.lines.write_leg.Goals as goal
+use Rattle.plan_answers.proofs.answer_lines.write_leg.Goals as goal
 
 pub returns : goal.returns
 returns c =
