@@ -109,7 +109,7 @@ only s standing a b c h cheap near alone =
 
 -- ---- the examples
 abbrev T_shape : Shape
-T_shape = record { m₀ = 4; m₁ = 4; m₂ = 3; k₀ = Open; k₁ = Open; k₂ = Open; direct = 40 }
+T_shape = record { m₀ = 4; m₁ = 4; m₂ = 3; k₀ = Open; k₁ = Open; k₂ = Open; direct = (leg_at T 2).charge }
 
 abbrev U_shape : Shape
 U_shape = record { m₀ = 4; m₁ = 4; m₂ = 3; k₀ = Open; k₁ = Open; k₂ = Open; direct = 30 }

@@ -1,5 +1,7 @@
 // Residual steps of a plan: what they cost, where they may start, and the amounts and capacities
 // that decide which there are.
+#![tactic(auto)]
+
 pub mod amounts;
 pub mod fees;
 pub mod starts;

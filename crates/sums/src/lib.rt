@@ -1,5 +1,7 @@
 // What a plan costs, and how far it is from the standing plan. Amounts that are missing count as 0, and those beyond the
 // legs do not count.
+#![tactic(auto)]
+
 ghost use Rattle.std.specs.Prelude.{◌≡◌, ◌*◌, ◌^◌, ◌<◌};
 ghost use Rattle.plans.specs.Plans.{amount, apart, cents, difference, leg_at};
 
