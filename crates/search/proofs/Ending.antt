@@ -1,6 +1,7 @@
 -- The first labels, and what labels say when rounds end.
 use Rattle.std.proofs.Common.{◌≡◌, ℕ, suc, ◌<◌, ◌≤◌, Bool, true, false, List, [], ◌∷◌, length, Some, None, Option, sym, refl, ap, ◌∙◌, subst, inl, inr, arith}
 use Rattle.std.proofs.lemmas.Bool.{both_ways}
+use Rattle.std.proofs.lemmas.Option.{none-some, same_Some}
 use Rattle.theory.specs.Groups.{OrderedGroup}
 use Rattle.theory.specs.Walks.{Walk, start, step, Least, Reached, Label, Rounds, AtMost}
 use Rattle.theory.specs.Walks as walks
@@ -13,7 +14,6 @@ use Rattle.search.specs.declared.label.Last.{Last}
 use Rattle.search.specs.declared.label.Last.TheVariants.{Start}
 use Rattle.search.specs.declared.label.Arrival.{Arrival}
 use Rattle.search.specs.declared.label.Label as labels
-use Rattle.search.proofs.Optional.{none_some, some_same}
 
 module _ {C A : Type 0} (G : OrderedGroup A) (worth : C → A) (size : C → ℕ) (n : ℕ) (F : ℕ → Type 0) (S : ℕ → ℕ → A → Type 0) (T : Last → ℕ → ℕ → A → Type 0)
     (ends : (u v : ℕ) (c : A) → S u v c → (u < n) × (v < n)) (into : (l : Last) (u v : ℕ) (c : A) → T l u v c → S u v c) where
@@ -30,7 +30,7 @@ module _ {C A : Type 0} (G : OrderedGroup A) (worth : C → A) (size : C → ℕ
 
     held_value : (o : Option (Arrival C)) → held worth o ≡ Some (value (held worth o)) → (y : Arrival C) × (o ≡ Some y) × (worth y.total ≡ value (held worth o))
     unfolding value
-    held_value None e = absurd (none_some _ e)
+    held_value None e = absurd (none-some _ e)
     held_value (Some y) e = (y, refl, refl)
 
     d : ℕ → A
@@ -64,7 +64,7 @@ module _ {C A : Type 0} (G : OrderedGroup A) (worth : C → A) (size : C → ℕ
 
     unreached : (v : ℕ) → (label_at ls v).arrival ≡ None → (us : List ℕ) (t : A) → Walk G F S v us t → ⊥
     unfolding R
-    unreached v e us t w = none_some _ (sym (ap (held worth) e) ∙ (Walking.under G F S R d settled w).0)
+    unreached v e us t w = none-some _ (sym (ap (held worth) e) ∙ (Walking.under G F S R d settled w).0)
 
     comes : (v : ℕ) (x : Arrival C) → v < n → (label_at ls v).arrival ≡ Some x → Came G worth size n F S T ls a.since v x → Comes G worth n F S T ls a.since v x
     comes v x h e (inl z) = inl z
@@ -109,8 +109,8 @@ module _ {C A : Type 0} (G : OrderedGroup A) (worth : C → A) (size : C → ℕ
   module _ (f : ℕ → Bool) (starts-at : (v : ℕ) → v < n → f v ≡ true → F v) (starts_from : (v : ℕ) → F v → (v < n) × (f v ≡ true)) (old ls : List (labels.Label C)) (b : Begins G worth size n f old ls) where
     -- by whether the station is a start
     first : (t : Bool) (v : ℕ) (x : Arrival C) → (begun t b.z).arrival ≡ Some x → (t ≡ true) × (x.last ≡ Start) × (worth x.total ≡ G.zero) × (size x.total ≡ 0)
-    first false v x e = absurd (none_some x e)
-    first true v x e = let q = some_same e in (refl, ap (λ y. y.last) (sym q), ap (λ y. worth y.total) (sym q) ∙ b.zero.0, ap (λ y. size y.total) (sym q) ∙ b.zero.1)
+    first false v x e = absurd (none-some x e)
+    first true v x e = let q = same_Some _ _ e in (refl, ap (λ y. y.last) (sym q), ap (λ y. worth y.total) (sym q) ∙ b.zero.0, ap (λ y. size y.total) (sym q) ∙ b.zero.1)
 
     first_at : (v : ℕ) (x : Arrival C) → v < n → (label_at ls v).arrival ≡ Some x → (f v ≡ true) × (x.last ≡ Start) × (worth x.total ≡ G.zero) × (size x.total ≡ 0)
     first_at v x h e = first (f v) v x (sym (ap (λ l. l.arrival) (b.each v h)) ∙ e)
@@ -121,7 +121,7 @@ module _ {C A : Type 0} (G : OrderedGroup A) (worth : C → A) (size : C → ℕ
 
     -- a label that is not marked as changed is not there
     absent : (t : Bool) (y : Arrival C) → (begun t b.z).changed ≡ false → (begun t b.z).arrival ≡ Some y → ⊥
-    absent false y p q = none_some y q
+    absent false y p q = none-some y q
     absent true y p q = both_ways true p refl
 
     reach : {v : ℕ} {us : List ℕ} {t : A} → Walk G F S v us t → length us ≤ 0 → AtMost G (held worth (label_at ls v).arrival) t

@@ -1,16 +1,11 @@
 -- Labels and worths that are there or absent.
-use Rattle.std.proofs.Common.{◌≡◌, ℕ, ◌<◌, Bool, true, false, ◌≢◌, ◌⊎◌, List, length, set, Some, None, Option, sym, refl, ◌∙◌, inl, inr, arith, get_or-set_other, get_or-set_same}
+use Rattle.std.proofs.Common.{◌≡◌, ℕ, ◌<◌, Bool, true, false, ◌≢◌, ◌⊎◌, List, length, set, Some, None, Option, sym, refl, ◌∙◌, inl, inr, get_or-set_other, get_or-set_same}
+use Rattle.std.proofs.lemmas.Option.{none-some, same_Some}
 use Rattle.theory.specs.Groups.{OrderedGroup, cancel}
 use Rattle.theory.specs.Walks.{AtMost}
 use Rattle.search.specs.Labels.{label_at, held, lowest, fresh_of, unlabelled}
 use Rattle.search.specs.declared.label.Arrival.{Arrival}
 use Rattle.search.specs.declared.label.Label.{Label}
-
-pub none_some : {X : Type 0} (x : X) → None ≡ Some x → ⊥
-none_some x e = let z : ◌≡◌ {A = ℕ} 0 1 = cc in omega arith
-
-pub some_same : {X : Type 0} {x y : X} → Some x ≡ Some y → x ≡ y
-some_same e = cc
 
 -- an option is absent or there
 pub option_cases : {X : Type 0} (o : Option X) → (o ≡ None) ⊎ ((x : X) × (o ≡ Some x))
@@ -19,12 +14,12 @@ option_cases (Some x) = inr (x, refl)
 
 -- ---- what a label that is fresh says
 pub fresh_some : {C : Type 0} (b : Bool) (o : Option (Arrival C)) (t : C) → fresh_of b o ≡ Some t → (b ≡ true) × ((y : Arrival C) × (o ≡ Some y) × (y.total ≡ t))
-fresh_some false o t e = absurd (none_some t e)
-fresh_some true None t e = absurd (none_some t e)
-fresh_some true (Some y) t e = (refl, (y, refl, some_same e))
+fresh_some false o t e = absurd (none-some t e)
+fresh_some true None t e = absurd (none-some t e)
+fresh_some true (Some y) t e = (refl, (y, refl, same_Some _ _ e))
 
 pub fresh_none : {C : Type 0} (b : Bool) (o : Option (Arrival C)) (y : Arrival C) → fresh_of b o ≡ None → b ≡ true → o ≡ Some y → ⊥
-fresh_none b o y e p q = let f : fresh_of b o ≡ Some y.total = rw (p, q) refl in none_some y.total (sym e ∙ f)
+fresh_none b o y e p q = let f : fresh_of b o ≡ Some y.total = rw (p, q) refl in none-some y.total (sym e ∙ f)
 
 -- ---- labels after a write
 pub label_same : {C : Type 0} (ls : List (Label C)) (v : ℕ) (l : Label C) → v < length ls → label_at (set ls v l) v ≡ l

@@ -1,6 +1,7 @@
 -- Rounds of relaxing: one round more, and the end.
 use Rattle.std.proofs.Common.{◌≡◌, ℕ, suc, ◌*◌, ◌<◌, ◌≤◌, Bool, true, false, cond, ◌⊎◌, List, [], ◌∷◌, length, Some, None, Option, sym, refl, ap, ◌∙◌, subst, inl, inr, arith}
 use Rattle.std.proofs.lemmas.Bool.{cases_Bool, both_ways}
+use Rattle.std.proofs.lemmas.Option.{none-some, same_Some}
 use Rattle.theory.specs.Groups.{OrderedGroup}
 use Rattle.theory.specs.Walks.{Walk, start, step, AtMost}
 use Rattle.theory.proofs.Adding.{shift_right}
@@ -11,7 +12,7 @@ use Rattle.search.specs.Rounds.{Attained, CameBy, Came, After, Late, Commits, St
 use Rattle.search.specs.declared.label.Last.{Last}
 use Rattle.search.specs.declared.label.Arrival.{Arrival}
 use Rattle.search.specs.declared.label.Label.{Label}
-use Rattle.search.proofs.Optional.{none_some, some_same, option_cases, held_at, held_is, turned, cancel_right}
+use Rattle.search.proofs.Optional.{option_cases, held_at, held_is, turned, cancel_right}
 
 -- one round more
 module _ {C A : Type 0} (G : OrderedGroup A) (worth : C → A) (size : C → ℕ) (n : ℕ) (F : ℕ → Type 0) (S : ℕ → ℕ → A → Type 0) (T : Last → ℕ → ℕ → A → Type 0)
@@ -127,7 +128,7 @@ module _ {C A : Type 0} (G : OrderedGroup A) (worth : C → A) (size : C → ℕ
   came' : (v : ℕ) (x : Arrival C) → v < n → (label_at new v).arrival ≡ Some x → Came G worth size n F S T new since' v x
   came' v x h e =
       elim (turn v h) [
-        | inl g ↦ let q : g.to ≡ x = some_same (sym g.after ∙ e) in inr (came_now v x h (g.found ∙ ap Some q) g.marked)
+        | inl g ↦ let q : g.to ≡ x = same_Some _ _ (sym g.after ∙ e) in inr (came_now v x h (g.found ∙ ap Some q) g.marked)
         | inr g ↦ came_before v x g.marked (a.came v x h (sym g.after ∙ e))
       ]
 
@@ -183,7 +184,7 @@ module _ {C A : Type 0} (G : OrderedGroup A) (worth : C → A) (size : C → ℕ
 
   pub round_still : r ≡ false → Still n new
   round_still e v h =
-      elim (turn v h) [ inl g ↦ absurd (none_some g.to (sym (p.none e v h) ∙ g.found)) | inr g ↦ g.marked ]
+      elim (turn v h) [ inl g ↦ absurd (none-some g.to (sym (p.none e v h) ∙ g.found)) | inr g ↦ g.marked ]
 
   pub round_late : r ≡ true → Late G worth size n F S T (suc k)
   round_late e =

@@ -3,6 +3,7 @@ use Rattle.std.proofs.Common.{◌≡◌, ℕ, suc, ◌+◌, ◌^◌, ◌<◌, �
 use native.Mathlib.Decide.{ℕ_discrete}
 use Rattle.std.proofs.lemmas.List.{drop-set-lt}
 use Rattle.std.proofs.lemmas.Bool.{cases_lt}
+use Rattle.std.proofs.lemmas.Option.{none-some, same_Some}
 use Rattle.records.specs.declared.leg.Leg.{Leg}
 use Rattle.network.specs.Nets.{Net}
 use Rattle.theory.specs.Groups.{OrderedGroup}
@@ -17,7 +18,7 @@ use Rattle.search.specs.declared.label.Last.{Last}
 use Rattle.search.specs.declared.label.Last.TheVariants.{Start, Forth, Back}
 use Rattle.search.specs.declared.label.Arrival.{Arrival}
 use Rattle.search.specs.declared.label.Label.{Label}
-use Rattle.search.proofs.Optional.{none_some, some_same, fresh_some, fresh_none, label_same, label_other, undercut, under_lowest}
+use Rattle.search.proofs.Optional.{fresh_some, fresh_none, label_same, label_other, undercut, under_lowest}
 
 module _ {C A : Type 0} (G : OrderedGroup A) (worth : C → A) (size : C → ℕ) (n : ℕ) (T : Last → ℕ → ℕ → A → Type 0) where
   abbrev Swept : ℕ → List (Label C) → List (Label C) → Type 0
@@ -32,8 +33,8 @@ module _ {C A : Type 0} (G : OrderedGroup A) (worth : C → A) (size : C → ℕ
         arrival = λ v. refl;
         changed = λ v. refl;
         small = small;
-        found = λ v x h e. absurd (none_some x (sym (calm v h) ∙ e));
-        lower = λ v x y h e f k. none_some x (sym (calm v h) ∙ e);
+        found = λ v x h e. absurd (none-some x (sym (calm v h) ∙ e));
+        lower = λ v x y h e f k. none-some x (sym (calm v h) ∙ e);
         done = λ l u v c y t h p q. absurd (omega arith);
       }
 
@@ -59,7 +60,7 @@ module _ {C A : Type 0} (G : OrderedGroup A) (worth : C → A) (size : C → ℕ
       (only : (l' : Last) (u' v' : ℕ) (c' : A) → T l' u' v' c' → place l' ≡ j → (u' ≡ u) × (v' ≡ v) × (c' ≡ c)) (s : Swept j old a) where
     -- what is asked of the step itself
     same_total : (u' : ℕ) (c' : A) (y' : Arrival C) → u' ≡ u → c' ≡ c → (label_at old u').arrival ≡ Some y' → G.add (worth y'.total) c' ≡ worth x.total
-    same_total u' c' y' p q e = let f : Some y' ≡ Some y = sym e ∙ ap (λ w. (label_at old w).arrival) p ∙ there in rw (some_same f, q) (sym sum)
+    same_total u' c' y' p q e = let f : Some y' ≡ Some y = sym e ∙ ap (λ w. (label_at old w).arrival) p ∙ there in rw (same_Some _ _ f, q) (sym sum)
 
     pub sweep_left : AtMost G (best worth (label_at a v)) (worth x.total) → Swept (suc j) old a
     sweep_left low =
@@ -92,12 +93,12 @@ module _ {C A : Type 0} (G : OrderedGroup A) (worth : C → A) (size : C → ℕ
           changed = λ w. elim (ℕ_discrete w v) [ yes e ↦ rw (e, here) (s.changed v) | no k ↦ rw (label_other a v w (with_better (label_at a v) x) k) (s.changed w) ];
           small = s.small;
           found = λ w z h f. elim (ℕ_discrete w v) [
-            | yes e ↦ rw (e, ← (some_same (rw (e, here) at f))) found_x
+            | yes e ↦ rw (e, ← (same_Some _ _ (rw (e, here) at f))) found_x
             | no k ↦ s.found w z h (rw (label_other a v w (with_better (label_at a v) x) k) at f)
           ];
           lower = λ w z y' h f g i. elim (ℕ_discrete w v) [
             | yes e ↦
-                let q : x ≡ z = some_same (rw (e, here) at f) in
+                let q : x ≡ z = same_Some _ _ (rw (e, here) at f) in
                 let g' : (label_at old v).arrival ≡ Some y' = rw e at g in
                 beaten (under_lowest G worth (label_at a v).better (label_at a v).arrival y' (worth x.total) (s.arrival v ∙ g') (λ r p. s.lower v r y' below p g') (rw (← q) at i))
             | no k ↦ s.lower w z y' h (rw (label_other a v w (with_better (label_at a v) x) k) at f) g i
