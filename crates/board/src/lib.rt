@@ -1,4 +1,6 @@
 // The board: a network, the plan that stands, and the lists that were handed out last.
+#![tactic(auto)]
+
 pub mod board;
 pub mod entries;
 mod room;

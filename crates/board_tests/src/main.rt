@@ -1,5 +1,7 @@
 // Makes runs of calls on new boards, and prints what each call answered and handed out.
 // The lines are compared with the file `stdout`.
+#![tactic(auto)]
+
 mod drawn;
 mod lent;
 mod limits;

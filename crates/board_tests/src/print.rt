@@ -10,40 +10,36 @@ use tally::{Answer, Call};
 // A call.
 fn call(rt: &HostRuntime, call: Call) -> io::Result<()> {
     match call {
-        Call::Report { station, balance } => print!(rt, "  report {station} {balance}: "),
-        Call::Close { leg } => print!(rt, "  close {leg}: "),
-        Call::Reopen { leg } => print!(rt, "  reopen {leg}: "),
+        Call::Report { station, balance } => print!(rt; "  report {station} {balance}: "),
+        Call::Close { leg } => print!(rt; "  close {leg}: "),
+        Call::Reopen { leg } => print!(rt; "  reopen {leg}: "),
         Call::Plan {
             prices,
             cut,
             station_entries,
             leg_entries,
-        } => print!(
-            rt,
-            "  plan {prices} {cut} {station_entries} {leg_entries}: "
-        ),
-        Call::ListStations { length } => print!(rt, "  stations {length}: "),
-        Call::ListRuns { length } => print!(rt, "  runs {length}: "),
-        Call::Read { leg } => print!(rt, "  read {leg}: "),
+        } => print!(rt; "  plan {prices} {cut} {station_entries} {leg_entries}: "),
+        Call::ListStations { length } => print!(rt; "  stations {length}: "),
+        Call::ListRuns { length } => print!(rt; "  runs {length}: "),
+        Call::Read { leg } => print!(rt; "  read {leg}: "),
     }
 }
 
 // An answer.
 fn answer(rt: &HostRuntime, answer: Answer) -> io::Result<()> {
     match answer {
-        Answer::Done => print!(rt, "done"),
+        Answer::Done => print!(rt; "done"),
         Answer::Refused { refusal } => {
             let number = refusal.number();
             let place = refusal.place();
-            print!(rt, "refused {number} {place}")
+            print!(rt; "refused {number} {place}")
         }
-        Answer::Planned { cents, difference } => print!(
-            rt,
+        Answer::Planned { cents, difference } => print!(rt;
             "{cents} cents, difference {difference}"
         ),
-        Answer::Listed { count } => print!(rt, "{count} listed"),
-        Answer::Amount { bikes: Some(bikes) } => print!(rt, "{bikes}"),
-        Answer::Amount { bikes: None } => print!(rt, "absent"),
+        Answer::Listed { count } => print!(rt; "{count} listed"),
+        Answer::Amount { bikes: Some(bikes) } => print!(rt; "{bikes}"),
+        Answer::Amount { bikes: None } => print!(rt; "absent"),
     }
 }
 

@@ -1,5 +1,7 @@
 // The rules of a board: its calls, its answers, and what each call does to the tally of network,
 // plan and lists. No code of a board is in here; the crate `board` is proved against it.
+#![tactic(auto)]
+
 ghost use Rattle.tally.specs.Laws.{Computed, Determined};
 
 pub mod answer;
