@@ -1,16 +1,15 @@
 -- From what each part of a board promises to the rules of its calls.
-use Rattle.std.proofs.Common.{◌≡◌, ℕ, ◌<◌, ◌≤◌, Bool, true, false, cond, ltb, ◌⊎◌, List, [], ◌++◌, length, get_or, take, drop, replicate, ℤ, Some, None, Ok, Err, Option, Result, sym, refl, ap, ◌∙◌, subst, inl, inr, arith, length-set, ltb-false, ltb-true, le-ltb, lt-ltb}
+use Rattle.std.proofs.Common.{◌≡◌, ℕ, ◌<◌, ◌≤◌, Bool, cond, ltb, ◌⊎◌, List, [], ◌++◌, length, get_or, take, drop, replicate, ℤ, Some, None, Ok, Err, Option, Result, sym, refl, ap, ◌∙◌, subst, inl, inr, arith, length-set, le-ltb, lt-ltb}
 use Rattle.std.proofs.lemmas.List.{get_or-take, take-append-drop, take-replicate}
 use Rattle.records.specs.Refusals.{number, place}
 use Rattle.records.specs.declared.leg.Mark.{Mark}
 use Rattle.records.specs.declared.leg.Mark.TheVariants.{Open, Shut}
 use Rattle.records.specs.declared.refusal.Refusal.{Refusal}
-use Rattle.network.specs.Nets.{Net, Within}
+use Rattle.network.specs.Nets.{Net}
 use Rattle.network.specs.Offices.{Reports, Marks, remarked}
-use Rattle.listing.specs.Lists.{listed as list-after}
-use Rattle.listing.specs.Listings.{Listing, Made}
+use Rattle.listing.specs.Listings.{Listing}
 use Rattle.plans.specs.Plans.{amount}
-use Rattle.tally.specs.Answers.{done, listed}
+use Rattle.tally.specs.Answers.{done}
 use Rattle.tally.specs.Follows.{Papers, papers, written, fault, Accepts, Follows}
 use Rattle.tally.specs.Tallies.{Tally, fresh, with_meaning, short, runs, short_list, running_list, standing}
 use Rattle.tally.specs.declared.answer.Answer.{Answer}

@@ -1,10 +1,9 @@
 -- From calls that were made to what is true of the run.
-use Rattle.std.proofs.Common.{◌≡◌, ℕ, ◌<◌, ◌≤◌, Bool, true, false, List, length, Ok, Err, Decides, Result, sym, refl, ap, ◌∙◌, subst, arith}
+use Rattle.std.proofs.Common.{◌≡◌, ℕ, ◌≤◌, Bool, true, false, List, length, Ok, Err, Decides, Result, sym, ◌∙◌, subst}
 use borrow.Author.Tests.{clash}
 use Rattle.records.specs.declared.refusal.Refusal.{Refusal}
-use Rattle.records.specs.declared.refusal.Refusal.TheVariants.{SliceTooShort}
 use Rattle.network.specs.Nets.{Net}
-use Rattle.tally.specs.Runs.{Lent, Sound, WholeRun}
+use Rattle.tally.specs.Runs.{Lent}
 use Rattle.tally.specs.Tallies.{Tally, fresh}
 use Rattle.tally.specs.declared.answer.Answer.{Answer}
 use Rattle.tally.specs.declared.call.Call.{Call}

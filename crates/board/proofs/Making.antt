@@ -1,5 +1,5 @@
 -- A planning in a run: the call that the tables are cut to.
-use Rattle.std.proofs.Common.{◌≡◌, ℕ, ◌<◌, ◌≤◌, min, Bool, List, length, take, ℤ, Ok, Err, Option, Result, sym, refl, ap, ◌∙◌, subst, arith, length-take, w32, SFits, to_z, of_z}
+use Rattle.std.proofs.Common.{◌≡◌, ℕ, ◌≤◌, min, Bool, List, length, take, ℤ, Ok, Err, Option, Result, sym, refl, ap, ◌∙◌, subst, arith, length-take, w32, SFits, to_z, of_z}
 use Rattle.std.proofs.lemmas.Int.{to_z-of_z}
 use Rattle.records.specs.declared.refusal.Refusal.{Refusal}
 use Rattle.tally.specs.Answers.{done, listed}

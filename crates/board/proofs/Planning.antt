@@ -1,18 +1,14 @@
 -- From what a planning promises to the rules of the call.
-use Rattle.std.proofs.Common.{◌≡◌, ℕ, ◌<◌, ◌≤◌, List, length, take, ℤ, Some, None, Ok, Err, Option, Result, sym, refl, ap, ◌∙◌, subst, arith}
+use Rattle.std.proofs.Common.{◌≡◌, ℕ, List, length, take, ℤ, Some, None, Ok, Err, Option, sym, refl, ap, ◌∙◌, subst}
 use Rattle.std.specs.Option.{option_map}
 use Rattle.records.specs.Refusals.{number, place}
 use Rattle.records.specs.declared.refusal.Refusal.{Refusal}
-use Rattle.records.specs.declared.refusal.Refusal.TheVariants.{NoPlanObeys}
 use Rattle.network.specs.Nets.{Net}
 use Rattle.checks.specs.Checks.{checked}
 use Rattle.checks.specs.declared.lengths.Lengths.{Lengths}
 use Rattle.planning.specs.Planned as rule
 use Rattle.planning.specs.Planned.{Accepted, Impossible, the_plan}
-use Rattle.tally.specs.Answers.{planned}
-use Rattle.tally.specs.Follows.{Papers, papers, PlanAnswers, Follows}
-use Rattle.tally.specs.Tallies.{Tally}
-use Rattle.tally.specs.declared.answer.Answer.{Answer}
+use Rattle.tally.specs.Follows.{papers, Follows}
 use Rattle.tally.specs.declared.answer.Answer.TheVariants.{Refused, Planned}
 use Rattle.board.specs.Views.{seen, plan_call, Copied}
 use Rattle.board.proofs.Calls.{when_accepted, when_refused}

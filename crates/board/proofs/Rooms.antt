@@ -1,5 +1,5 @@
 -- What is left of the lent memory, call by call.
-use Rattle.std.proofs.Common.{◌≡◌, ℕ, suc, ◌+◌, ◌<◌, ◌≤◌, ◌⊎◌, List, length, sym, refl, ap, ◌∙◌, subst, inl, inr, add-one, arith, below_more}
+use Rattle.std.proofs.Common.{◌≡◌, ℕ, ◌+◌, ◌<◌, ◌≤◌, List, length, sym, refl, ◌∙◌, subst, inl, inr, add-one, arith, below_more}
 use Rattle.tally.specs.Runs.{call_at, prices_long, numbers_long, amounts_long, from}
 use Rattle.tally.specs.declared.call.Call.{Call}
 use Rattle.tally.proofs.Growing.{sum_in}

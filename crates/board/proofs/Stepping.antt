@@ -1,15 +1,15 @@
 -- One call of a run on its part of the lent memory.
-use Rattle.std.proofs.Common.{◌≡◌, ℕ, suc, ◌+◌, ◌-◌, ◌<◌, ◌≤◌, min, List, length, take, drop, set, ℤ, sym, refl, ap, ◌∙◌, subst, add-one, arith, length-drop, length-take}
+use Rattle.std.proofs.Common.{◌≡◌, ℕ, ◌+◌, ◌-◌, ◌<◌, ◌≤◌, min, List, length, take, drop, set, ℤ, sym, refl, ap, ◌∙◌, subst, add-one, arith, length-drop, length-take}
 use borrow.Rule.Slice.PartMut.{put_mid}
 use Rattle.std.proofs.lemmas.Slice.{take-put_mid_below, drop-put_mid, between-put_mid}
 use Rattle.tally.specs.Follows.{Papers, papers, Follows}
-use Rattle.tally.specs.Runs.{Lent, call_at, prices_long, numbers_long, amounts_long, from, HandsOut, Makes, Run, Beyond}
+use Rattle.tally.specs.Runs.{Lent, call_at, prices_long, numbers_long, amounts_long, from, HandsOut, Makes}
 use Rattle.tally.specs.Tallies.{Tally}
 use Rattle.tally.specs.declared.answer.Answer.{Answer}
 use Rattle.tally.specs.declared.call.Call.{Call}
 use Rattle.tally.proofs.Growing.{sum_in, longer, run_more, beyond_call, run_none, beyond_none}
 use Rattle.tally.proofs.Keeping.{legs_same}
-use Rattle.board.specs.Running.{lending, stations_long, legs_long, HasRoom, Fits, Moves, MadeAll}
+use Rattle.board.specs.Running.{lending, HasRoom, Fits, Moves, MadeAll}
 use Rattle.board.specs.declared.entries.Entries.{Entries}
 
 -- how long a part is

@@ -1,11 +1,9 @@
 -- What the rules settle: the tally after a call, and what two answers to it have in common.
-use Rattle.std.proofs.Common.{◌≡◌, ℕ, ◌⊎◌, List, Some, None, Option, sym, refl, ap, ◌∙◌, inl, inr}
-use Rattle.records.specs.Refusals.{number, place}
+use Rattle.std.proofs.Common.{◌≡◌, ℕ, Some, None, Option, sym, refl, ap, ◌∙◌, inl, inr}
 use Rattle.records.specs.declared.refusal.Refusal.{Refusal}
 use Rattle.plans.specs.Plans.{cents, difference}
-use Rattle.planning.specs.Planned.{Accepted, Impossible}
 use Rattle.tally.specs.Tallies.{Tally, with_plan}
-use Rattle.tally.specs.Answers.{refusal_of, number_of}
+use Rattle.tally.specs.Answers.{number_of}
 use Rattle.tally.specs.Follows.{Papers, fault, PlanAnswers, Accepts, Follows}
 use Rattle.tally.specs.Model.{fed, moved, moved_unless, next}
 use Rattle.tally.specs.Laws.{Agree}
@@ -13,7 +11,7 @@ use Rattle.tally.specs.declared.answer.Answer.{Answer}
 use Rattle.tally.specs.declared.answer.Answer.TheVariants.{Done, Refused, Planned, Listed, Amount}
 use Rattle.tally.specs.declared.call.Call.{Call}
 use Rattle.tally.specs.declared.call.Call.TheVariants.{Report, Close, Reopen, Plan, ListStations, ListRuns, Read}
-use Rattle.tally.proofs.Naming.{none_some, same_refused}
+use Rattle.tally.proofs.Naming.{same_refused}
 
 moved_is : (t : Tally) (call : Call) (answer : Answer) (p p' : Papers) (t' : Tally) → Accepts t call answer p p' t' → t' ≡ moved t call (fed answer t'.plan)
 moved_is t (Report s b) answer p p' t' a = a.2

@@ -1,5 +1,5 @@
 -- One call more of a run.
-use Rattle.std.proofs.Common.{◌≡◌, ℕ, zero, suc, ◌+◌, ◌<◌, ◌≤◌, Bool, true, false, cond, ltb, List, length, get_or, take, drop, set, ℤ, sym, refl, ap, ◌∙◌, subst, add-one, arith, get_or-set_other, get_or-set_same, below_more, le-ltb, lt-ltb}
+use Rattle.std.proofs.Common.{◌≡◌, ℕ, zero, suc, ◌+◌, ◌<◌, ◌≤◌, Bool, cond, ltb, List, length, take, drop, set, ℤ, sym, refl, ap, ◌∙◌, subst, add-one, arith, get_or-set_other, get_or-set_same, below_more, le-ltb, lt-ltb}
 use Rattle.std.proofs.lemmas.List.{drop-drop, drop-take, take-take, drop-set-lt}
 use Rattle.plans.specs.Plans.{sum_below}
 use Rattle.tally.specs.Tallies.{Tally}

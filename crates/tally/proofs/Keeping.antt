@@ -1,10 +1,10 @@
 -- Every tally of a run has one amount for each leg and lists that name nobody twice.
-use Rattle.std.proofs.Common.{◌≡◌, ℕ, List, length, replicate, Some, None, Option, sym, refl, ap, ◌∙◌, subst, length-set}
+use Rattle.std.proofs.Common.{◌≡◌, ℕ, length, Some, None, Option, sym, refl, ap, ◌∙◌, subst, length-set}
 use lib.ListN.{length-replicate}
 use Rattle.network.specs.Nets.{Net}
 use Rattle.listing.proofs.Entering.{keeps_order}
 use Rattle.theory.specs.Walks.{Distinct}
-use Rattle.tally.specs.Tallies.{Tally, fresh, with_plan, short, runs, short_list, running_list}
+use Rattle.tally.specs.Tallies.{Tally, fresh, short, runs, short_list, running_list}
 use Rattle.tally.specs.Follows.{Papers, fault, PlanAnswers, Accepts, Follows}
 use Rattle.tally.specs.Runs.{Sound}
 use Rattle.tally.specs.declared.answer.Answer.{Answer}

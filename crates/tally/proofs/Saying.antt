@@ -11,7 +11,6 @@ use Rattle.network.specs.Offices.{reportable, has_mark}
 use Rattle.checks.specs.Checks.{lowest, or_else, too_short, senseless, too_large, uneven, checked}
 use Rattle.checks.specs.declared.lengths.Lengths.{Lengths}
 use Rattle.plans.specs.Plans.{stations, Obeys}
-use Rattle.planning.specs.Planned.{Impossible}
 use Rattle.tally.specs.Tallies.{Tally}
 use Rattle.tally.specs.Answers.{refusal_of}
 use Rattle.tally.specs.Follows.{Papers, lengths, fault, PlanAnswers, Accepts, Follows}

@@ -1,21 +1,18 @@
 -- What is true of a run whose tallies follow one another.
-use Rattle.std.proofs.Common.{◌≡◌, ℕ, zero, suc, ◌<◌, ◌≤◌, cond, ltb, List, ◌++◌, length, take, drop, Some, None, Option, sym, refl, ap, ◌∙◌, subst, arith}
+use Rattle.std.proofs.Common.{◌≡◌, ℕ, zero, suc, ◌<◌, ◌≤◌, List, length, take, drop, Some, sym, refl, ap, ◌∙◌, subst, arith}
 use Rattle.std.proofs.lemmas.List.{take_at}
 use Rattle.records.specs.Refusals.{number, place}
 use Rattle.records.specs.declared.refusal.Refusal.{Refusal}
-use Rattle.plans.specs.Plans.{Obeys}
 use Rattle.listing.specs.Lists.{Ordered}
 use Rattle.listing.proofs.Entering.{keeps_order}
 use Rattle.tally.specs.Tallies.{Tally, short, runs, short_list, running_list}
-use Rattle.tally.specs.Answers.{refusal_of}
-use Rattle.tally.specs.Follows.{Papers, written, fault, PlanAnswers, Accepts, Follows}
+use Rattle.tally.specs.Follows.{Papers, written, Accepts, Follows}
 use Rattle.tally.specs.Model.{fed, next}
 use Rattle.tally.specs.Runs.{Lent, call_at, answer_at, papers_at, amounts_at, HandsOut, Beyond, Run, Sound, BestPlan, NoPlan, WholeRun}
 use Rattle.tally.specs.declared.answer.Answer.{Answer}
 use Rattle.tally.specs.declared.answer.Answer.TheVariants.{Done, Refused, Planned, Listed, Amount}
 use Rattle.tally.specs.declared.call.Call.{Call}
-use Rattle.tally.specs.declared.call.Call.TheVariants.{Report, Close, Reopen, Plan, ListStations, ListRuns, Read}
-use Rattle.tally.proofs.Naming.{none_some}
+use Rattle.tally.specs.declared.call.Call.TheVariants.{ListStations, ListRuns}
 use Rattle.tally.proofs.Agreeing.{computed}
 use Rattle.tally.proofs.Saying.{planned_says, refused_says, unaltered, plan_found, listed_none}
 use Rattle.tally.proofs.Keeping.{sound_more}

@@ -2,7 +2,7 @@
 --   Computed     the tally after a call is the one that is computed
 --   Agree        two answers to the same call on the same tally, with the tallies after them
 --   Determined   any two agree
-use Rattle.std.specs.Prelude.{◌≡◌, ℕ, ◌⊎◌, List, Some}
+use Rattle.std.specs.Prelude.{◌≡◌, ◌⊎◌, Some}
 use Rattle.tally.specs.Tallies.{Tally}
 use Rattle.tally.specs.Answers.{number_of}
 use Rattle.tally.specs.Follows.{Papers, Follows}

@@ -1,4 +1,4 @@
-use Rattle.std.proofs.Common.{◌≡◌, length, sym, refl, ap, ◌∙◌, subst, arith}
+use Rattle.std.proofs.Common.{◌≡◌, length, refl, subst, arith}
 use borrow.Author.Tests.{clash}
 use Rattle.tally.specs.Runs.{call_at}
 use Rattle.board.specs.Running.{TooFew, Left, entries}

@@ -1,4 +1,4 @@
-use Rattle.std.proofs.Common.{◌≡◌, sym, refl, ap, ◌∙◌, subst, w32, SFits, rules}
+use Rattle.std.proofs.Common.{◌≡◌, sym, ap, ◌∙◌, subst, w32, SFits, rules}
 use Rattle.tally.specs.Follows.{papers}
 use Rattle.board.specs.Views.{tally_of}
 use Rattle.board.specs.declared.board.Board.{Board}

@@ -1,4 +1,4 @@
-use Rattle.std.proofs.Common.{◌≡◌, ℕ, ◌<◌, length, sym, refl, ap, ◌∙◌, subst, arith}
+use Rattle.std.proofs.Common.{◌≡◌, ℕ, ◌<◌, length, subst, arith}
 use Rattle.board.specs.Running.{MadeAll, lending}
 use Rattle.board.specs.Views.{tally_of}
 use Rattle.board.proofs.Stepping.{going_none, going_more, has_room, five_same, two_same}

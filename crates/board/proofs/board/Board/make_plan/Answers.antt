@@ -1,4 +1,4 @@
-use Rattle.std.proofs.Common.{◌≡◌, length, sym, refl, ap, ◌∙◌, arith}
+use Rattle.std.proofs.Common.{length, sym, refl, ap, ◌∙◌}
 use Rattle.board.proofs.Copying.{handed_out}
 use Rattle.board.proofs.Making.{cut_call, at_call}
 use Rattle.board.proofs.board.Board.make_plan.Goals as goal

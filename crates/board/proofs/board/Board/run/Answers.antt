@@ -1,4 +1,4 @@
-use Rattle.std.proofs.Common.{◌≡◌, ◌≤◌, length, sym, refl, ap, ◌∙◌, arith, rules}
+use Rattle.std.proofs.Common.{◌≤◌, length, rules}
 use Rattle.planning.specs.Planned.{lengths_of}
 use Rattle.board.specs.Running.{Fits, given, lending}
 use Rattle.board.proofs.Finishing.{ran_all}

@@ -1,4 +1,4 @@
-use Rattle.std.proofs.Common.{◌≡◌, ℕ, ◌+◌, ◌-◌, ◌≤◌, length, sym, refl, ap, ◌∙◌, arith}
+use Rattle.std.proofs.Common.{◌≡◌, ℕ, ◌+◌, length, ap, ◌∙◌}
 use Rattle.tally.specs.Runs.{prices_long, numbers_long, amounts_long}
 use Rattle.board.specs.declared.entries.Entries.{Entries}
 use Rattle.board.proofs.Stepping.{stepped, back, within}

@@ -1,4 +1,4 @@
-use Rattle.std.proofs.Common.{◌≡◌, ℤ, pos, sym, ap, ◌∙◌, w32, SFits, to_z, of_z, rules}
+use Rattle.std.proofs.Common.{ℤ, pos, sym, ap, ◌∙◌, w32, SFits, rules}
 use lib.Signed.{lt_z}
 use Rattle.std.proofs.lemmas.Int.{to_z-of_z}
 use Rattle.network.proofs.Places.{get_or_none, get_or_some}
