@@ -1,4 +1,4 @@
--- What `vanplan` prints for a text.
+-- What `plan_once` prints for a text.
 --   whole_room      room for the largest network
 --   whole_lengths   slices and working tables for the largest network
 --   refusal_line    the line that tells a refusal

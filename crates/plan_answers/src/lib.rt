@@ -1,4 +1,4 @@
-// What `vanplan` answers to a network text: the bytes that it prints.
+// What `plan_once` answers to a network text: the bytes that it prints.
 #![tactic(auto)]
 
 ghost use Rattle.std.specs.Prelude.{◌≡◌, length, IfOk, string_bytes};

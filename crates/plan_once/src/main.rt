@@ -1,4 +1,4 @@
-// vanplan: reads one network text from standard input and prints the planner's answer to it.
+// plan_once: reads one network text from standard input and prints the planner's answer to it.
 #![tactic(auto)]
 
 ghost use Rattle.std.specs.Prelude.{◌≤◌, length, IfOk};
