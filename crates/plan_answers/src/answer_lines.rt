@@ -1,4 +1,4 @@
-// The lines that `vanplan` prints.
+// The lines that `plan_once` prints.
 ghost use Rattle.std.specs.Prelude.{◌≡◌, ◌+◌, ◌++◌, IfOk, string_bytes, OnOk};
 ghost use Rattle.planning.specs.Planned.{the_plan};
 ghost use Rattle.records.specs.Refusals.{number, place};
