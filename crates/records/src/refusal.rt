@@ -1,6 +1,10 @@
 // Every refusal of the planner, with the place that it speaks of.
-ghost use Rattle.std.specs.Prelude.{◌≡◌};
+ghost use Rattle.std.specs.Prelude.{◌≡◌, Some};
 ghost use Rattle.records.specs.Refusals.{number, place};
+ghost use Rattle.records.specs.Words.{refusal_words};
+
+use std::error::Error;
+use std::fmt;
 
 #[derive(Clone, Copy, PartialEq, Eq, Debug)]
 pub enum Refusal {
@@ -84,3 +88,16 @@ impl Refusal {
         }
     }
 }
+
+// `refused NUMBER PLACE`
+impl fmt::Display for Refusal {
+    ghost output = { λ e. Some (refusal_words (number e) (place e)) };
+
+    fn fmt<W: fmt::Write>(&self, f: &mut fmt::Formatter<W>) -> fmt::Result {
+        let number = self.number();
+        let place = self.place();
+        write!(f, "refused {number} {place}")
+    }
+}
+
+impl Error for Refusal {}
