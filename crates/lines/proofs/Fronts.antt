@@ -1,20 +1,15 @@
 -- What stands at the front of bytes, by the grammar and by scanning.
---   Stops       bytes that do not begin with a digit
 --   numeral_of, last_numeral, last_signed     what the grammar has, scanning finds
 --   by_word, by_field, by_flow, ended_from    what scanning finds, the grammar has
 --   none_some   no answer is not an answer
-use Rattle.std.proofs.Common.{◌≡◌, ℕ, zero, suc, ◌+◌, ◌-◌, ◌*◌, ◌≤◌, true, false, eqb, List, [], ◌∷◌, ◌++◌, length, ℤ, Some, None, Option, refl, ap, ◌∙◌, inl, inr, append-nil, zero-add, arith}
+use Rattle.std.proofs.Common.{◌≡◌, ℕ, zero, suc, ◌+◌, ◌-◌, ◌*◌, ◌≤◌, true, eqb, List, [], ◌∷◌, ◌++◌, length, ℤ, Some, None, Option, refl, ap, ◌∙◌, inl, inr, append-nil, zero-add, arith}
 use Rattle.std.specs.Option.{option_map}
 use Rattle.std.proofs.lemmas.Bool.{eqb-true, cond_both}
 use Rattle.std.proofs.lemmas.Bool.Decides.{nat_tests}
 use Rattle.lines.specs.declared.line.Line.{Line}
-use Rattle.lines.specs.Scan.{scanned, isDigit, numeral, past, after, ◌then◌, field, signed, either, as_positive, as_negative, flow, ended}
+use Rattle.lines.specs.Scan.{Stops, scanned, isDigit, numeral, past, after, ◌then◌, field, signed, either, as_positive, as_negative, flow, ended}
 use Rattle.lines.specs.Grammar.{Digits, worthFrom, Numeral, Signed}
 use Rattle.lines.proofs.Scanning.{stops}
-
-abbrev pub Stops : List ℕ → Type 0
-Stops [] = Unit {0}
-Stops (b ∷ s) = isDigit b ≡ false
 
 is_digit : (b : ℕ) → 48 ≤ b → b ≤ 57 → isDigit b ≡ true
 is_digit b h k = grind (arith, nat_tests)

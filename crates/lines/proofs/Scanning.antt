@@ -1,8 +1,9 @@
 -- Scanning a number: one digit more, and where it stops.
-use Rattle.std.proofs.Common.{◌≡◌, ℕ, zero, suc, ◌+◌, ◌-◌, ◌*◌, ◌^◌, ◌<◌, ◌≤◌, true, false, List, [], ◌∷◌, length, get_or, drop, Some, None, sym, refl, pow-suc, add-one, arith, eq-eqb}
+use Rattle.std.proofs.Common.{◌≡◌, ℕ, zero, suc, ◌+◌, ◌-◌, ◌*◌, ◌^◌, ◌<◌, ◌≤◌, Bool, true, false, cond, ◌&&◌, eqb, List, [], ◌∷◌, length, take, drop, Some, None, Option, MatchOption, sym, refl, ap, ◌∙◌, pow-suc, add-one, arith}
+use Rattle.std.specs.Cmp.Lexicographic.{pointwise}
+use Rattle.std.proofs.lemmas.Bool.{cond-true, cond-false}
 use native.Mathlib.Nat.{pow-le-pow_right}
-use Rattle.std.proofs.lemmas.List.{drop_more, drop_all}
-use Rattle.lines.specs.Scan.{scanned, isDigit, numeral, past, after, ◌then◌, problem, node, arc, scan}
+use Rattle.lines.specs.Scan.{Stops, BeginsWith, scanned, isDigit, numeral, after, ◌then◌}
 
 pub tens_more : (n v d : ℕ) → v < 10 ^ n → d ≤ 9 → v * 10 + d < 10 ^ (n + 1)
 tens_more n v d h k = simp (add-one, pow-suc) (omega arith)
@@ -20,49 +21,37 @@ pub stops : (k v b : ℕ) (s : List ℕ) → isDigit b ≡ false → scanned k v
 stops zero v b s e = refl
 stops (suc k) v b s e = rw e
 
-pub scan_more : (i v d : ℕ) (s : List ℕ) → i < 9 → i < length s → isDigit (get_or s i 0) ≡ true → d ≡ get_or s i 0 - 48
-    → scanned (9 - (i + 1)) (v * 10 + d) (drop (i + 1) s) ≡ scanned (9 - i) v (drop i s)
-scan_more i v d s small inside e is =
-    let n : 9 - i ≡ suc (9 - (i + 1)) = omega arith in
-    rw (n, drop_more s i 0, is) (sym (one_more (9 - (i + 1)) v (get_or s i 0) (drop (i + 1) s) e))
+-- a digit more
+pub scan_more : (i v d n : ℕ) (s rest : List ℕ) → i < 9 → BeginsWith s d rest → n ≡ d → scanned (9 - (i + 1)) (v * 10 + n) rest ≡ scanned (9 - i) v s
+scan_more i v d n s rest small f e =
+    let k : 9 - i ≡ suc (9 - (i + 1)) = omega arith in
+    rw (k, f.parts, e, f.worth) (sym (one_more (9 - (i + 1)) v f.byte rest f.is_digit))
 
-pub scan_stops : (i v : ℕ) (s : List ℕ) → i < length s → isDigit (get_or s i 0) ≡ false → scanned (9 - i) v (drop i s) ≡ (v, drop i s)
-scan_stops i v s inside e = rw (drop_more s i 0) (stops (9 - i) v (get_or s i 0) (drop (i + 1) s) e)
+pub scan_stops : (k v : ℕ) (s : List ℕ) → Stops s → scanned k v s ≡ (v, s)
+scan_stops k v [] h = refl
+scan_stops k v (b ∷ s) h = stops k v b s h
 
 pub scan_full : (v : ℕ) (s : List ℕ) → scanned 0 v s ≡ (v, s)
 scan_full v [] = refl
 scan_full v (b ∷ s) = refl
 
-pub scan_ends : (k i v : ℕ) (s : List ℕ) → length s ≤ i → scanned k v (drop i s) ≡ (v, drop i s)
-scan_ends k i v s h = rw (drop_all i s)
+pub numeral_begins : (s rest : List ℕ) (d n : ℕ) → BeginsWith s d rest → n ≡ d → numeral s ≡ Some (scanned 8 n rest)
+numeral_begins s rest d n f e = rw (f.parts, f.is_digit, e, f.worth)
 
-pub numeral_begins : (s : List ℕ) → 0 < length s → isDigit (get_or s 0 0) ≡ true → numeral s ≡ Some (scanned 8 (get_or s 0 0 - 48) (drop 1 s))
-numeral_begins [] h e = absurd (omega arith)
-numeral_begins (b ∷ s) h e = rw e
+-- a word at the front, by comparing as many bytes
+after_byte : (t p : Bool) (word s : List ℕ) (d : List ℕ) → after word s ≡ cond p (Some d) None
+    → (cond t (Some s) None then after word) ≡ cond (t && p) (Some d) None
+after_byte true p word s d h = h
+after_byte false p word s d h = refl
 
-pub numeral_fails : (s : List ℕ) → isDigit (get_or s 0 0) ≡ false → numeral s ≡ None
-numeral_fails [] e = refl
-numeral_fails (b ∷ s) e = rw e
+after_test : (word s : List ℕ) → after word s ≡ cond (pointwise eqb (take (length word) s) word) (Some (drop (length word) s)) None
+after_test [] s = refl
+after_test (b ∷ word) [] = refl
+after_test (b ∷ word) (c ∷ s) = after_byte (eqb c b) _ word s _ (after_test word s)
 
-pub past_at : (b : ℕ) (s : List ℕ) → 0 < length s → get_or s 0 0 ≡ b → past b s ≡ Some (drop 1 s)
-past_at b [] h e = absurd (omega arith)
-past_at b (c ∷ s) h e = rw (eq-eqb c b e)
-
-pub after_more : (i : ℕ) (word s : List ℕ) → i < length word → after (drop i word) s ≡ (past (get_or word i 0) s then after (drop (i + 1) word))
-after_more i word s h = rw (drop_more word i 0)
-
-pub after_all : (i : ℕ) (word s : List ℕ) → length word ≤ i → after (drop i word) s ≡ Some s
-after_all i word s h = rw (drop_all i word)
-
--- the line by its first letter
-pub scan_p : (s : List ℕ) → 0 < length s → get_or s 0 0 ≡ 112 → problem (drop 1 s) ≡ scan s
-scan_p [] h e = absurd (omega arith)
-scan_p (b ∷ s) h e = rw e
-
-pub scan_n : (s : List ℕ) → 0 < length s → get_or s 0 0 ≡ 110 → node (drop 1 s) ≡ scan s
-scan_n [] h e = absurd (omega arith)
-scan_n (b ∷ s) h e = rw e
-
-pub scan_a : (s : List ℕ) → 0 < length s → get_or s 0 0 ≡ 97 → arc (drop 1 s) ≡ scan s
-scan_a [] h e = absurd (omega arith)
-scan_a (b ∷ s) h e = rw e
+pub strips : {X : Type 0} (r : Option X) (bytes : X → List ℕ) (word s : List ℕ)
+    → MatchOption r (pointwise eqb (take (length word) s) word ≡ false)
+    (λ x. (pointwise eqb (take (length word) s) word ≡ true) × (bytes x ≡ drop (length word) s) × (length (bytes x) + length word ≡ length s))
+    → MatchOption r (after word s ≡ None) (λ x. after word s ≡ Some (bytes x))
+strips None bytes word s h = after_test word s ∙ cond-false _ _ _ h
+strips (Some x) bytes word s h = after_test word s ∙ cond-true _ _ _ h.0 ∙ ap Some (sym h.1)

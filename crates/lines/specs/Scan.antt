@@ -1,5 +1,7 @@
 -- How a line is taken apart, from its first byte to its last.
 --   isDigit    a byte that is a digit, `0` to `9`
+--   Stops      bytes that do not begin with a digit
+--   BeginsWith bytes that begin with a digit, its worth, and what follows it
 --   scanned    the number that up to k digits at the front add to one begun, and what follows them
 --   numeral    a number of one to nine digits at the front, and what follows it
 --   field      a space and then a numeral
@@ -10,13 +12,24 @@
 --   after      what follows a word, where the bytes begin with it
 --   comment, problem, node, arc   what may follow a line's first letter
 --   scan       the line that bytes spell, if any
-use Rattle.std.specs.Prelude.{ℕ, zero, suc, ◌+◌, ◌-◌, ◌*◌, Bool, cond, ◌&&◌, List, [], ◌∷◌, ℤ, pos, neg_ℤ, Some, None, codes, Option, ◌==◌, nat_le}
+use Rattle.std.specs.Prelude.{◌≡◌, ℕ, ◌≤◌, true, false, zero, suc, ◌+◌, ◌-◌, ◌*◌, Bool, cond, ◌&&◌, List, [], ◌∷◌, ℤ, pos, neg_ℤ, Some, None, codes, Option, ◌==◌, nat_le}
 use Rattle.std.specs.Option.{option_map}
 use Rattle.lines.specs.declared.line.Line.{Line}
 use Rattle.lines.specs.declared.line.Line.TheVariants.{Comment, Problem, Node, Arc}
 
 abbrev pub isDigit : ℕ → Bool
 isDigit b = nat_le 48 b && nat_le b 57
+
+abbrev pub Stops : List ℕ → Type 0
+Stops [] = Unit {0}
+Stops (b ∷ s) = isDigit b ≡ false
+
+pub record BeginsWith (s : List ℕ) (d : ℕ) (rest : List ℕ) : Type 0 where
+  pub byte : ℕ
+  pub parts : s ≡ byte ∷ rest
+  pub is_digit : isDigit byte ≡ true
+  pub worth : d ≡ byte - 48
+  pub small : d ≤ 9
 
 -- k more digits at most, onto the number begun
 abbrev pub scanned : ℕ → ℕ → List ℕ → ℕ × List ℕ

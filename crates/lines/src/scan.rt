@@ -1,7 +1,7 @@
 // Taking a line apart, from its first byte to its last.
 ghost use Rattle.std.specs.Prelude.{◌≡◌, ℕ, ◌+◌, ◌-◌, ◌*◌, ◌<◌, ◌≤◌, true, false, length, Some, None, MatchOption};
 ghost use Rattle.lines.specs.Grammar.{Spelled};
-ghost use Rattle.lines.specs.Scan.{isDigit, numeral, past, after, field, signed, flow, ended, comment, problem, node, arc, scan};
+ghost use Rattle.lines.specs.Scan.{isDigit, Stops, BeginsWith, numeral, past, after, field, signed, flow, ended, comment, problem, node, arc, scan};
 
 use crate::line::Line;
 
@@ -9,51 +9,48 @@ use crate::line::Line;
 fn digit(b: u8) -> Option<u8>
     ensures { MatchOption result (isDigit b ≡ false) (λ d. (isDigit b ≡ true) × (d ≡ b - 48) × (d ≤ 9)) }
 {
-    if b >= b'0' && b <= b'9' {
-        Some(b - b'0')
-    } else {
-        None
+    match b {
+        b'0'..=b'9' => Some(b - b'0'),
+        _ => None,
     }
+}
+
+// The digit at the front, and what follows it.
+fn first_digit(s: &[u8]) -> Option<(u8, &[u8])>
+    ensures { MatchOption result (Stops s.now) (λ p. BeginsWith s.now p.0 p.1.now) }
+{
+    let (b, rest) = s.split_first()?;
+    Some((digit(*b)?, rest))
 }
 
 // A number of one to nine digits at the front, and what follows it.
 fn numeral(s: &[u8]) -> Option<(u32, &[u8])>
     ensures { MatchOption result (numeral s.now ≡ None) (λ p. (numeral s.now ≡ Some (p.0, p.1.now)) × (p.0 < 1000000000)) }
 {
-    if s.is_empty() {
-        return None;
-    }
-    let mut value = u32::from(digit(s[0])?);
-    let mut count = 1;
-    while count < 9 && count < s.len() {
-        let Some(d) = digit(s[count]) else {
+    let (first, mut rest) = first_digit(s)?;
+    let mut value = u32::from(first);
+    for _taken in 1..9u8 {
+        let Some((digit, behind)) = first_digit(rest) else {
             break;
         };
-        value = value * 10 + u32::from(d);
-        count += 1;
+        value = value * 10 + u32::from(digit);
+        rest = behind;
     }
-    Some((value, &s[count..]))
+    Some((value, rest))
 }
 
 // What follows the byte `b`, where `s` begins with it.
 fn past(s: &[u8], b: u8) -> Option<&[u8]>
     ensures { MatchOption result (past b s.now ≡ None) (λ rest. past b s.now ≡ Some rest.now) }
 {
-    if s.is_empty() || s[0] != b {
-        return None;
-    }
-    Some(&s[1..])
+    s.strip_prefix(&[b])
 }
 
 // What follows `word`, where `s` begins with it.
 fn after<'a>(s: &'a [u8], word: &[u8]) -> Option<&'a [u8]>
     ensures { MatchOption result (after word.now s.now ≡ None) (λ rest. after word.now s.now ≡ Some rest.now) }
 {
-    let mut rest = s;
-    for b in word {
-        rest = past(rest, *b)?;
-    }
-    Some(rest)
+    s.strip_prefix(word)
 }
 
 // A space and then a numeral, and what follows it.
@@ -67,12 +64,10 @@ fn field(s: &[u8]) -> Option<(u32, &[u8])>
 fn signed(s: &[u8]) -> Option<(i32, &[u8])>
     ensures { MatchOption result (signed s.now ≡ None) (λ p. signed s.now ≡ Some (p.0, p.1.now)) }
 {
-    if let Some(digits) = past(s, b'-') {
-        let (n, rest) = numeral(digits)?;
-        return Some((-(n as i32), rest));
+    match past(s, b'-') {
+        Some(digits) => numeral(digits).map(|(n, rest)| (-(n as i32), rest)),
+        None => numeral(s).map(|(n, rest)| (n as i32, rest)),
     }
-    let (n, rest) = numeral(s)?;
-    Some((n as i32, rest))
 }
 
 // A space and then a signed numeral, and what follows it.
@@ -86,7 +81,7 @@ fn flow(s: &[u8]) -> Option<(i32, &[u8])>
 fn ended(s: &[u8], line: Line) -> Option<Line>
     ensures { result ≡ ended s.now line }
 {
-    if s.is_empty() { Some(line) } else { None }
+    s.is_empty().then_some(line)
 }
 
 // What follows a `c`.
@@ -144,15 +139,12 @@ fn arc(s: &[u8]) -> Option<Line>
 fn by_letter(s: &[u8]) -> Option<Line>
     ensures { result ≡ scan s.now }
 {
-    if s.is_empty() {
-        return None;
-    }
-    let rest = &s[1..];
-    match s[0] as char {
-        'c' => comment(rest),
-        'p' => problem(rest),
-        'n' => node(rest),
-        'a' => arc(rest),
+    let (letter, rest) = s.split_first()?;
+    match *letter {
+        b'c' => comment(rest),
+        b'p' => problem(rest),
+        b'n' => node(rest),
+        b'a' => arc(rest),
         _ => None,
     }
 }

@@ -1,59 +1,34 @@
--- Where a row ends: one byte more, and the end.
-use Rattle.std.proofs.Common.{◌≡◌, ℕ, suc, ◌+◌, ◌-◌, ◌<◌, ◌≤◌, min, List, [], ◌∷◌, ◌++◌, length, get_or, take, drop, sym, refl, ap, ◌∙◌, ⊎_elim, add_assoc, arith}
+-- Where a row ends.
+use Rattle.std.proofs.Common.{◌≡◌, ℕ, suc, ◌+◌, ◌-◌, ◌<◌, ◌≤◌, min, List, [], ◌∷◌, length, get_or, take, drop, MatchOption, Option, sym, refl, ap, ◌∙◌, ⊎_elim, add_assoc, arith}
 use native.Mathlib.Nat.{sub-zero}
-use Rattle.std.proofs.lemmas.List.{drop_more, drop_all, drop-drop, take_more, take_rest, length-take-le, append_assoc, append-nil}
+use Rattle.std.proofs.lemmas.List.{drop_more, drop_all, drop-drop, take_rest, length-take-le}
 use Rattle.std.proofs.lemmas.Bool.{eq-eqb, ne_eqb, cases_eq, cases_lt}
+use Rattle.std.specs.Option.{unwrap_or}
+use Rattle.std.specs.List.{AllWithin, HoldsAt}
+use Rattle.std.proofs.lemmas.Iterator.{index_from_first}
 use Rattle.text_rules.specs.Rows.{first_row, behind, rows}
 use Rattle.text_rules.proofs.Parting.{rows_step}
 use Rattle.reader.specs.Taking.{row_at, next_place}
 
--- the first i bytes of s lie in its first row
-pub record Inside (s : List ℕ) (i : ℕ) : Type 0 where
-  pub row : first_row s ≡ take i s ++ first_row (drop i s)
-  pub rest : behind s ≡ behind (drop i s)
+first_length : (b : ℕ) (s : List ℕ) → (b ≡ 10 → ⊥) → length (first_row (b ∷ s)) ≡ length (first_row s) + 1
+first_length b s ne = rw (ne_eqb b 10 ne) (omega arith)
 
-first_more : (b : ℕ) (s : List ℕ) → (b ≡ 10 → ⊥) → first_row (b ∷ s) ≡ b ∷ first_row s
-first_more b s ne = rw (ne_eqb b 10 ne)
+first_ends : (b : ℕ) (s : List ℕ) → b ≡ 10 → length (first_row (b ∷ s)) ≡ 0
+first_ends b s e = rw (eq-eqb b 10 e)
 
-behind_more : (b : ℕ) (s : List ℕ) → (b ≡ 10 → ⊥) → behind (b ∷ s) ≡ behind s
-behind_more b s ne = rw (ne_eqb b 10 ne)
+-- the first line end, where there is one, is as far as the first row is long
+pub row_end : (s : List ℕ) (r : Option ℕ)
+    → MatchOption r (AllWithin (λ b. b ≡ 10 → ⊥) s 0 (length s)) (λ i. (i < length s) × HoldsAt (λ b. b ≡ 10) s i × AllWithin (λ b. b ≡ 10 → ⊥) s 0 i)
+    → length (first_row s) ≡ unwrap_or r (length s)
+row_end s r = index_from_first (λ t. length (first_row t)) (λ b. b ≡ 10) (λ b. b ≡ 10 → ⊥) refl first_ends first_length s r
 
-pub inside_none : (s : List ℕ) → Inside s 0
-inside_none s = record { row = refl; rest = refl }
-
-pub inside_more : (s : List ℕ) (i : ℕ) → i < length s → (get_or s i 0 ≡ 10 → ⊥) → Inside s i → Inside s (i + 1)
-inside_more s i h ne inside =
-    let b = get_or s i 0 in
-    let t = drop (i + 1) s in
-    let d = drop_more s i 0 h in
-    record {
-      row = inside.row ∙ ap (λ x. take i s ++ first_row x) d ∙ ap (λ x. take i s ++ x) (first_more b t ne)
-          ∙ sym (append_assoc (take i s) (b ∷ []) (first_row t)) ∙ ap (λ x. x ++ first_row t) (sym (take_more s i 0 h));
-      rest = inside.rest ∙ ap behind d ∙ behind_more b t ne;
-    }
-
-pub row_found : (s : List ℕ) (i : ℕ) → i < length s → get_or s i 0 ≡ 10 → Inside s i → first_row s ≡ take i s
-row_found s i h e inside = inside.row ∙ ap (λ x. take i s ++ first_row x) (drop_more s i 0 h) ∙ rw e (append-nil (take i s))
-
-pub rest_found : (s : List ℕ) (i : ℕ) → i < length s → get_or s i 0 ≡ 10 → Inside s i → behind s ≡ drop (i + 1) s
-rest_found s i h e inside = inside.rest ∙ ap behind (drop_more s i 0 h) ∙ rw e
-
-pub row_all : (s : List ℕ) (i : ℕ) → length s ≤ i → Inside s i → first_row s ≡ take i s
-row_all s i h inside = inside.row ∙ ap (λ x. take i s ++ first_row x) (drop_all i s h) ∙ append-nil (take i s)
-
-pub rest_all : (s : List ℕ) (i : ℕ) → length s ≤ i → Inside s i → behind s ≡ drop (i + 1) s
-rest_all s i h inside = inside.rest ∙ ap behind (drop_all i s h) ∙ sym (drop_all (i + 1) s (omega arith))
-
--- of `&text[place..]`, as the checker reads it: its first r bytes are its first row
-module _ (text : List ℕ) (place r : ℕ) (is : first_row (take (length text - place) (drop place text)) ≡ take r (take (length text - place) (drop place text))) where
-  plain : first_row (drop place text) ≡ take r (drop place text)
-  plain = rw (take_rest text place) at is
-
-  pub row_taken : take (r - 0) (take (length text - place) (drop place text)) ≡ first_row (drop place text)
-  row_taken = rw (take_rest text place, sub-zero r) (sym plain)
-
-  pub row_long : r ≤ length (take (length text - place) (drop place text)) → length (first_row (drop place text)) ≡ r
-  row_long h = ap length plain ∙ length-take-le r (drop place text) (rw (take_rest text place) at h)
+first_front : (s : List ℕ) → first_row s ≡ take (length (first_row s)) s
+first_front [] = refl
+first_front (b ∷ s) =
+    ⊎_elim
+    (λ (e : b ≡ 10). rw (eq-eqb b 10 e) refl)
+    (λ (ne : b ≡ 10 → ⊥). rw (ne_eqb b 10 ne) (ap (λ t. b ∷ t) (first_front s)))
+    (cases_eq b 10)
 
 behind_drop : (s : List ℕ) → behind s ≡ drop (length (first_row s) + 1) s
 behind_drop [] = refl
@@ -65,6 +40,24 @@ behind_drop (b ∷ s) =
     let e : suc (n + 1) ≡ suc n + 1 = omega arith in
     rw (ne_eqb b 10 ne) (behind_drop s ∙ ap (λ k. drop k (b ∷ s)) e))
     (cases_eq b 10)
+
+-- so many bytes are the first row
+pub row_front : (s : List ℕ) (n : ℕ) → length (first_row s) ≡ n → first_row s ≡ take n s
+row_front s n e = first_front s ∙ ap (λ k. take k s) e
+
+pub row_behind : (s : List ℕ) (n : ℕ) → length (first_row s) ≡ n → behind s ≡ drop (n + 1) s
+row_behind s n e = behind_drop s ∙ ap (λ k. drop (k + 1) s) e
+
+-- of `&text[place..]`, as the checker reads it: its first r bytes are its first row
+module _ (text : List ℕ) (place r : ℕ) (is : first_row (take (length text - place) (drop place text)) ≡ take r (take (length text - place) (drop place text))) where
+  plain : first_row (drop place text) ≡ take r (drop place text)
+  plain = rw (take_rest text place) at is
+
+  pub row_taken : take (r - 0) (take (length text - place) (drop place text)) ≡ first_row (drop place text)
+  row_taken = rw (take_rest text place, sub-zero r) (sym plain)
+
+  pub row_long : r ≤ length (take (length text - place) (drop place text)) → length (first_row (drop place text)) ≡ r
+  row_long h = ap length plain ∙ length-take-le r (drop place text) (rw (take_rest text place) at h)
 
 drop_min : (n : ℕ) (xs : List ℕ) → drop n xs ≡ drop (min (length xs) n) xs
 drop_min n xs =

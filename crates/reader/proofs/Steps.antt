@@ -17,11 +17,21 @@ use Rattle.text_rules.specs.Stated.{legs_of}
 use Rattle.text_rules.specs.declared.progress.Header.{Header}
 use Rattle.text_rules.specs.declared.progress.Progress.{Progress}
 use Rattle.text_rules.specs.declared.progress.Room.{Room}
-use Rattle.reader.specs.Taking.{row_at, next_place, judged_row, judged_at}
-use Rattle.reader.specs.Entering.{Stepped, Filled, legs_with}
+use Rattle.reader.specs.Taking.{TookLine, row_at, next_place, judged_row, judged_at}
+use Rattle.reader.specs.Entering.{Filled, legs_with, stations_with}
 use Rattle.reader.proofs.Passing.{passed}
 use Rattle.reader.proofs.RowEnds.{rows_at}
 use Rattle.reader.proofs.Sofar.{Sofar, sound_none, sound_more, legs_more, stations_more}
+
+-- taking and entering one line, where there is one
+abbrev pub Stepped : Result Bool Refusal → Room → List ℕ → ℕ → ℕ → Progress → ℕ → ℕ → Progress → List Leg → List Leg → List Station → List Station → Type 0
+Stepped (Ok true) room text place lines p place' lines' p' legs legs' stations stations' =
+    (l : Line) × TookLine (Ok (Some l)) room text place lines p place' lines' p'
+    × (legs' ≡ legs_with l p.arcs legs) × (stations' ≡ stations_with l stations)
+Stepped (Ok false) room text place lines p place' lines' p' legs legs' stations stations' =
+    TookLine (Ok None) room text place lines p place' lines' p' × (legs' ≡ legs) × (stations' ≡ stations)
+Stepped (Err e) room text place lines p place' lines' p' legs legs' stations stations' =
+    TookLine (Err e) room text place lines p place' lines' p' × (legs' ≡ legs) × (stations' ≡ stations)
 
 pub sofar_none : (room : Room) (text : List ℕ) (place lines : ℕ) (p : Progress) (legs : List Leg) (stations : List Station)
     → place ≡ 0 → lines ≡ 0 → p ≡ record { header = None; arcs = 0 } → legs ≡ replicate room.legs cleared_leg

@@ -2,9 +2,8 @@
 --   room_of                    the room of two tables
 --   Small                      a line whose numbers fit the records
 --   legs_with, stations_with   the tables once a line is entered
---   Stepped                    what taking and entering one line answers and leaves
 --   Filled                     what entering every line answers, and the tables where it is accepted
-use Rattle.std.specs.Prelude.{◌≡◌, ℕ, ◌-◌, ◌≤◌, Bool, true, false, List, length, Some, None, Ok, Err, Result, slice_set}
+use Rattle.std.specs.Prelude.{◌≡◌, ℕ, ◌-◌, ◌≤◌, List, length, Ok, Err, Result, slice_set}
 use Rattle.records.specs.declared.refusal.Refusal.{Refusal}
 use Rattle.records.specs.declared.leg.Leg.{Leg}
 use Rattle.records.specs.declared.station.Station.{Station}
@@ -12,9 +11,7 @@ use Rattle.lines.specs.declared.line.Line.{Line}
 use Rattle.lines.specs.declared.line.Line.TheVariants.{Comment, Problem, Node, Arc}
 use Rattle.text_rules.specs.Reading.{answer_of, legs_after, stations_after}
 use Rattle.text_rules.specs.Stated.{leg_of}
-use Rattle.text_rules.specs.declared.progress.Progress.{Progress}
 use Rattle.text_rules.specs.declared.progress.Room.{Room}
-use Rattle.reader.specs.Taking.{TookLine}
 
 abbrev pub room_of : List Leg → List Station → Room
 room_of legs stations = record { stations = length stations; legs = length legs }
@@ -39,15 +36,6 @@ stations_with Comment stations = stations
 stations_with (Problem nodes arcs) stations = stations
 stations_with (Node id flow) stations = slice_set stations (id - 1) (record { balance = flow })
 stations_with (Arc source target low capacity cost) stations = stations
-
-abbrev pub Stepped : Result Bool Refusal → Room → List ℕ → ℕ → ℕ → Progress → ℕ → ℕ → Progress → List Leg → List Leg → List Station → List Station → Type 0
-Stepped (Ok true) room text place lines p place' lines' p' legs legs' stations stations' =
-    (l : Line) × TookLine (Ok (Some l)) room text place lines p place' lines' p'
-    × (legs' ≡ legs_with l p.arcs legs) × (stations' ≡ stations_with l stations)
-Stepped (Ok false) room text place lines p place' lines' p' legs legs' stations stations' =
-    TookLine (Ok None) room text place lines p place' lines' p' × (legs' ≡ legs) × (stations' ≡ stations)
-Stepped (Err e) room text place lines p place' lines' p' legs legs' stations stations' =
-    TookLine (Err e) room text place lines p place' lines' p' × (legs' ≡ legs) × (stations' ≡ stations)
 
 abbrev pub Filled : Result (ℕ × ℕ) Refusal → Result (List Line) Refusal → List Leg → List Station → ℕ → ℕ → Type 0
 Filled (Ok sizes) whole legs stations m n =

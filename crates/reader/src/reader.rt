@@ -28,10 +28,7 @@ impl<'a> Reader<'a> {
             text,
             place: 0,
             lines: 0,
-            progress: Progress {
-                header: None,
-                arcs: 0,
-            },
+            progress: Progress::default(),
             room,
         }
     }

@@ -3,29 +3,24 @@ ghost use Rattle.std.specs.Prelude.{◌≡◌, ℕ, ◌+◌, ◌-◌, ◌^◌, �
 ghost use Rattle.records.specs.Cleared.{cleared_leg, cleared_station};
 ghost use Rattle.text_rules.specs.Reading.{reading, answer_of, legs_after, stations_after, Exactly};
 ghost use Rattle.text_rules.specs.Stated.{leg_of};
-ghost use Rattle.text_rules.specs.Judging.{nodes_in};
-ghost use Rattle.reader.specs.Entering.{Small, legs_with, stations_with, Stepped, Filled, room_of};
+ghost use Rattle.reader.specs.Entering.{Small, legs_with, stations_with, Filled, room_of};
 
 use crate::reader::Reader;
 use lines::Line;
 use records::{Leg, Mark, Refusal, Station};
 use text_rules::Room;
 
-// Clears every leg record.
-fn clear_legs(legs: &mut [Leg])
-    ensures { legs.new ≡ replicate (length legs.old) cleared_leg }
+// Clears every record.
+fn clear(legs: &mut [Leg], stations: &mut [Station])
+    ensures legs { legs.new ≡ replicate (length legs.old) cleared_leg }
+    ensures stations { stations.new ≡ replicate (length stations.old) cleared_station }
 {
-    legs.fill(Leg::CLEARED);
-}
-
-// Clears every station record.
-fn clear_stations(stations: &mut [Station])
-    ensures { stations.new ≡ replicate (length stations.old) cleared_station }
-{
-    stations.fill(Station::CLEARED);
+    legs.fill(Leg::default());
+    stations.fill(Station::default());
 }
 
 // Writes one record, where the table has it.
+// Through `get_mut` the proof leaves open what the table then holds.
 fn put<T: Copy>(table: &mut [T], i: usize, value: T)
     ensures { table.new ≡ slice_set table.old i value }
 {
@@ -55,8 +50,7 @@ fn enter(line: Line, at: usize, legs: &mut [Leg], stations: &mut [Station])
     ensures stations { stations.new ≡ stations_with line stations.old }
 {
     match line {
-        Line::Comment => {}
-        Line::Problem { .. } => {}
+        Line::Comment | Line::Problem { .. } => {}
         Line::Node { id, flow } => put(stations, id as usize - 1, Station { balance: flow }),
         Line::Arc {
             source,
@@ -70,23 +64,12 @@ fn enter(line: Line, at: usize, legs: &mut [Leg], stations: &mut [Station])
     }
 }
 
-// Takes and enters one line; false at the end of the text.
-fn step(reader: &mut Reader, legs: &mut [Leg], stations: &mut [Station]) -> Result<bool, Refusal>
-    requires { nodes_in reader.old.progress.header ≤ 240 }
-    ensures stepped { Stepped result reader.old.room reader.old.text.now reader.old.place reader.old.lines reader.old.progress reader.new.place reader.new.lines reader.new.progress legs.old legs.new stations.old stations.new }
-    ensures text { reader.new.text.now ≡ reader.old.text.now }
-    ensures room { reader.new.room ≡ reader.old.room }
-{
-    let at = reader.progress.arcs;
-    let Some(line) = reader.take_line()? else {
-        return Ok(false);
-    };
-    enter(line, at, legs, stations);
-    Ok(true)
-}
-
 // Reads the lines of a text into cleared tables.
-fn fill(text: &[u8], legs: &mut [Leg], stations: &mut [Station]) -> Result<(usize, usize), Refusal>
+fn read_lines(
+    text: &[u8],
+    legs: &mut [Leg],
+    stations: &mut [Station],
+) -> Result<(usize, usize), Refusal>
     requires { (legs.old ≡ replicate (length legs.old) cleared_leg) × (stations.old ≡ replicate (length stations.old) cleared_station) }
     ensures { Filled result (reading (room_of legs.old stations.old) text.now) legs.new stations.new (length legs.old) (length stations.old) }
 {
@@ -95,7 +78,11 @@ fn fill(text: &[u8], legs: &mut [Leg], stations: &mut [Station]) -> Result<(usiz
         legs: legs.len(),
     };
     let mut reader = Reader::new(text, room);
-    while step(&mut reader, legs, stations)? {}
+    let mut at = 0;
+    while let Some(line) = reader.take_line()? {
+        enter(line, at, legs, stations);
+        at = reader.progress.arcs;
+    }
     reader.finish()
 }
 
@@ -111,12 +98,10 @@ pub fn read(
     ensures stations { stations.new ≡ stations_after (reading (room_of legs.old stations.old) text.now) (length stations.old) }
     ensures exactly { Exactly text.now (room_of legs.old stations.old) result legs.new stations.new }
 {
-    clear_legs(legs);
-    clear_stations(stations);
-    let answer = fill(text, legs, stations);
+    clear(legs, stations);
+    let answer = read_lines(text, legs, stations);
     if answer.is_err() {
-        clear_legs(legs);
-        clear_stations(stations);
+        clear(legs, stations);
     }
     answer
 }

@@ -15,12 +15,7 @@ fn row_length(s: &[u8]) -> usize
     ensures within { result ≤ length s.now }
     ensures rest { behind s.now ≡ drop (result + 1) s.now }
 {
-    for (i, b) in s.iter().enumerate() {
-        if *b == b'\n' {
-            return i;
-        }
-    }
-    s.len()
+    s.iter().position(|b| *b == b'\n').unwrap_or(s.len())
 }
 
 // What the line at `place` spells, if it has a form, and where the next line begins.

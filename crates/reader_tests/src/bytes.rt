@@ -20,36 +20,34 @@ fn answer_with(heap: Global, gap: &Gap, byte: u8) -> Result<Answer, AllocError> 
     let mut text = Vec::from_slice(heap, gap.before.as_bytes())?;
     text.extend_from_slice(&[byte])?;
     text.extend_from_slice(gap.behind.as_bytes())?;
-    let mut legs = [Leg::CLEARED; 2];
-    let mut stations = [Station::CLEARED; 2];
+    let mut legs = [Leg::default(); 2];
+    let mut stations = [Station::default(); 2];
     Ok(read(text.as_slice(), &mut legs, &mut stations))
+}
+
+// What is answered with each byte in the gap.
+fn answers(heap: Global, gap: &Gap) -> Result<Vec<Answer>, AllocError> {
+    (0..=255u8)
+        .map(|byte| answer_with(heap, gap, byte))
+        .try_collect(heap)
 }
 
 // The number of a refusal, 0 where the text is accepted.
 fn number_of(answer: Answer) -> u8 {
-    match answer {
-        Ok(_) => 0,
-        Err(refusal) => refusal.number(),
-    }
+    answer.err().map_or(0, |refusal| refusal.number())
 }
 
-// With how many bytes the answer has a number.
-fn count(heap: Global, gap: &Gap, number: u8) -> Result<usize, AllocError> {
-    let mut count: usize = 0;
-    for byte in 0..=255u8 {
-        if number_of(answer_with(heap, gap, byte)?) == number {
-            count = count.saturating_add(1);
-        }
-    }
-    Ok(count)
+// How many answers have a number.
+fn count(answers: &[Answer], number: u8) -> usize {
+    answers.iter().filter(|a| number_of(**a) == number).count()
 }
 
 // Prints how many bytes have each answer.
-fn tally(rt: &HostRuntime, name: &str, gap: &Gap) -> io::Result<()> {
-    let ok = count(rt.alloc(), gap, 0)?;
+fn tally(rt: &HostRuntime, name: &str, answers: &[Answer]) -> io::Result<()> {
+    let ok = count(answers, 0);
     print!(rt; "{name}: ok {ok}, refused")?;
     for number in 1..7u8 {
-        let refused = count(rt.alloc(), gap, number)?;
+        let refused = count(answers, number);
         print!(rt; " {refused}")?;
     }
     println!(rt; "")
@@ -62,13 +60,12 @@ fn list(
     before: &'static str,
     behind: &'static str,
 ) -> io::Result<()> {
-    let gap = Gap { before, behind };
-    tally(rt, name, &gap)?;
-    for byte in 0..=255u8 {
-        let answer = answer_with(rt.alloc(), &gap, byte)?;
-        if number_of(answer) != 2 {
+    let answers = answers(rt.alloc(), &Gap { before, behind })?;
+    tally(rt, name, answers.as_slice())?;
+    for (byte, answer) in answers.iter().enumerate() {
+        if number_of(*answer) != 2 {
             print!(rt; "  {byte} ")?;
-            print::answer(rt, answer)?;
+            print::answer(rt, *answer)?;
             println!(rt; "")?;
         }
     }
@@ -113,12 +110,10 @@ pub(crate) fn later(rt: &HostRuntime) -> io::Result<()> {
         "p min 1 0",
         " 7\n",
     )?;
-    tally(
-        rt,
-        "byte behind \"c \"",
-        &Gap {
-            before: "p min 1 0\nc ",
-            behind: "",
-        },
-    )
+    let gap = Gap {
+        before: "p min 1 0\nc ",
+        behind: "",
+    };
+    let answers = answers(rt.alloc(), &gap)?;
+    tally(rt, "byte behind \"c \"", answers.as_slice())
 }

@@ -34,7 +34,7 @@ pub struct Frame {
 
 impl Frame {
     // A frame with small tables.
-    pub(crate) fn small(before: &'static str, behind: &'static str) -> Frame {
+    pub(crate) fn new(before: &'static str, behind: &'static str) -> Frame {
         Frame {
             before,
             behind,
@@ -43,31 +43,23 @@ impl Frame {
         }
     }
 
-    // A frame with small tables and the network printed.
-    pub(crate) fn shown(before: &'static str, behind: &'static str) -> Frame {
+    // The same with tables of a room.
+    pub(crate) fn within(self, room: Room) -> Frame {
+        Frame { room, ..self }
+    }
+
+    // The same with the network printed.
+    pub(crate) fn shown(self) -> Frame {
         Frame {
-            before,
-            behind,
-            room: SMALL,
             shown: true,
+            ..self
         }
     }
 }
 
 // How many of the records are not cleared.
-fn uncleared(legs: &[Leg], stations: &[Station]) -> usize {
-    let mut count: usize = 0;
-    for leg in legs {
-        if *leg != Leg::CLEARED {
-            count = count.saturating_add(1);
-        }
-    }
-    for station in stations {
-        if *station != Station::CLEARED {
-            count = count.saturating_add(1);
-        }
-    }
-    count
+fn uncleared<T: Copy + Default + PartialEq>(records: &[T]) -> usize {
+    records.iter().filter(|r| **r != T::default()).count()
 }
 
 // Reads a text into tables of a given room, and prints the answer, with the records of the network
@@ -84,7 +76,7 @@ pub(crate) fn read_into(rt: &HostRuntime, text: &[u8], room: Room, shown: bool) 
         print::stations(rt, read_stations)?;
         print::legs(rt, read_legs)?;
     }
-    let left = uncleared(other_legs, other_stations);
+    let left = uncleared(other_legs).saturating_add(uncleared(other_stations));
     if left != 0 {
         print!(rt; ", {left} not cleared")?;
     }

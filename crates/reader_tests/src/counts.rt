@@ -1,8 +1,5 @@
 // More and fewer arc lines than announced, and which of two wrong lines counts.
-use crate::cases;
-use std::io;
-
-const TEXTS: [(&str, &str); 16] = [
+pub const TEXTS: [(&str, &str); 16] = [
     ("arc too many", "p min 2 1\na 1 2 0 5 7\na 2 1 0 5 7\n"),
     ("arc too many of none", "p min 2 0\na 1 2 0 5 7\n"),
     (
@@ -38,8 +35,3 @@ const TEXTS: [(&str, &str); 16] = [
     ("bad form before bad range", "p min 2 1\nx\nn 3 5\n"),
     ("bad order before bad form", "p min 2 1\np min 2 1\nx\n"),
 ];
-
-// Every text.
-pub(crate) fn all(rt: &HostRuntime) -> io::Result<()> {
-    cases::named(rt, &TEXTS, false)
-}

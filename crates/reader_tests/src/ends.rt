@@ -1,8 +1,5 @@
 // Where lines end, and texts that hold hardly anything.
-use crate::cases;
-use std::io;
-
-const TEXTS: [(&str, &str); 20] = [
+pub const TEXTS: [(&str, &str); 20] = [
     ("empty text", ""),
     ("only a line end", "\n"),
     ("two line ends", "\n\n"),
@@ -27,8 +24,3 @@ const TEXTS: [(&str, &str); 20] = [
         "c\np min 2 1\nc x\nn 1 5\nc\na 1 2 0 5 7\nc last",
     ),
 ];
-
-// Every text.
-pub(crate) fn all(rt: &HostRuntime) -> io::Result<()> {
-    cases::named(rt, &TEXTS, false)
-}

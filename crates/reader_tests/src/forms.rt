@@ -211,9 +211,9 @@ const ARC_DIGITS: [&str; 17] = [
 
 // Every line, where its kind may stand.
 pub(crate) fn all(rt: &HostRuntime) -> io::Result<()> {
-    cases::between(rt, &Frame::small("", "\np min 1 0\n"), &COMMENTS)?;
-    cases::between(rt, &Frame::small("", "\n"), &PROBLEMS)?;
-    cases::between(rt, &Frame::small("p min 3 1\n", "\na 1 2 0 5 7\n"), &NODES)?;
-    cases::between(rt, &Frame::small("p min 3 1\n", "\n"), &ARCS)?;
-    cases::between(rt, &Frame::small("p min 3 1\n", "\n"), &ARC_DIGITS)
+    cases::between(rt, &Frame::new("", "\np min 1 0\n"), &COMMENTS)?;
+    cases::between(rt, &Frame::new("", "\n"), &PROBLEMS)?;
+    cases::between(rt, &Frame::new("p min 3 1\n", "\na 1 2 0 5 7\n"), &NODES)?;
+    cases::between(rt, &Frame::new("p min 3 1\n", "\n"), &ARCS)?;
+    cases::between(rt, &Frame::new("p min 3 1\n", "\n"), &ARC_DIGITS)
 }

@@ -23,10 +23,10 @@ use std::io;
 fn main(rt: HostRuntime) -> io::Result<()> {
     forms::all(&rt)?;
     ranges::all(&rt)?;
-    ends::all(&rt)?;
-    order::all(&rt)?;
-    counts::all(&rt)?;
-    stated::all(&rt)?;
+    cases::named(&rt, &ends::TEXTS, false)?;
+    cases::named(&rt, &order::TEXTS, false)?;
+    cases::named(&rt, &counts::TEXTS, false)?;
+    cases::named(&rt, &stated::TEXTS, true)?;
     rooms::all(&rt)?;
     clearing::filled_records(&rt)?;
     clearing::shut_records(&rt)?;

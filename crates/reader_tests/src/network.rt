@@ -4,10 +4,11 @@ use crate::print;
 use reader::read;
 use records::{Leg, Mark, Station};
 use std::alloc::{AllocError, Global};
-use std::io;
+use std::{io, iter};
+use text_rules::id_of;
 
-// The balance of the first station.
-const FIRST_BALANCE: i32 = -500;
+// The first station.
+const FIRST_STATION: Station = Station { balance: -500 };
 
 // The first leg.
 const FIRST_LEG: Leg = Leg {
@@ -18,9 +19,11 @@ const FIRST_LEG: Leg = Leg {
     mark: Mark::Open,
 };
 
-// The balance of the next station.
-fn next_balance(balance: i32) -> i32 {
-    balance.saturating_add(5).min(500)
+// The next station.
+fn next_station(station: Station) -> Station {
+    Station {
+        balance: station.balance.saturating_add(5).min(500),
+    }
 }
 
 // The next leg: it starts where the one before ends.
@@ -34,28 +37,14 @@ fn next_leg(leg: Leg) -> Leg {
     }
 }
 
-// The line that states a balance.
-fn node_line(heap: Global, id: u32, balance: i32) -> Result<String, AllocError> {
-    format!(in heap; "n {id} {balance}\n")
-}
-
-// The line that states a leg.
-fn arc_line(heap: Global, leg: Leg) -> Result<String, AllocError> {
-    let source = leg.start.wrapping_add(1);
-    let target = leg.end.wrapping_add(1);
-    let capacity = leg.capacity;
-    let cost = leg.charge;
-    format!(in heap; "a {source} {target} 0 {capacity} {cost}\n")
-}
-
 // The lines of the stations.
 fn node_lines(heap: Global) -> Result<String, AllocError> {
     let mut text = String::new(heap);
-    let mut balance = FIRST_BALANCE;
+    let mut station = FIRST_STATION;
     for id in 1..241u32 {
-        let line = node_line(heap, id, balance)?;
-        text.push_str(line.as_str())?;
-        balance = next_balance(balance);
+        let balance = station.balance;
+        writeln!(text, "n {id} {balance}")?;
+        station = next_station(station);
     }
     Ok(text)
 }
@@ -65,8 +54,11 @@ fn arc_lines(heap: Global) -> Result<String, AllocError> {
     let mut text = String::new(heap);
     let mut leg = FIRST_LEG;
     for _ in 0..3000u32 {
-        let line = arc_line(heap, leg)?;
-        text.push_str(line.as_str())?;
+        let source = id_of(leg.start);
+        let target = id_of(leg.end);
+        let capacity = leg.capacity;
+        let cost = leg.charge;
+        writeln!(text, "a {source} {target} 0 {capacity} {cost}")?;
         leg = next_leg(leg);
     }
     Ok(text)
@@ -79,30 +71,15 @@ fn text(heap: Global) -> Result<String, AllocError> {
     format!(in heap; "p min 240 3000\n{nodes}{arcs}")
 }
 
-// How many stations have another balance.
-fn other_stations(stations: &[Station]) -> usize {
-    let mut count: usize = 0;
-    let mut balance = FIRST_BALANCE;
-    for station in stations {
-        if station.balance != balance {
-            count = count.saturating_add(1);
-        }
-        balance = next_balance(balance);
-    }
-    count
-}
-
-// How many legs are others.
-fn other_legs(legs: &[Leg]) -> usize {
-    let mut count: usize = 0;
-    let mut expected = FIRST_LEG;
-    for leg in legs {
-        if *leg != expected {
-            count = count.saturating_add(1);
-        }
-        expected = next_leg(expected);
-    }
-    count
+// How many records are others than those that follow a first one.
+fn others<T: Copy + PartialEq, F: Fn(T) -> T>(records: &[T], first: T, next: F) -> usize
+    requires { (f : _) (x : _) → F.pre f x }
+{
+    records
+        .iter()
+        .zip(iter::successors(Some(first), |record| Some(next(*record))))
+        .filter(|(found, expected)| **found != *expected)
+        .count()
 }
 
 // Reads the network, and prints how many records differ from it.
@@ -117,6 +94,10 @@ pub(crate) fn whole(rt: &HostRuntime) -> io::Result<()> {
     );
     print!(rt; "240 nodes and 3000 arcs: ")?;
     print::answer(rt, answer)?;
-    let count = other_stations(stations.as_slice()).saturating_add(other_legs(legs.as_slice()));
+    let count = others(stations.as_slice(), FIRST_STATION, next_station).saturating_add(others(
+        legs.as_slice(),
+        FIRST_LEG,
+        next_leg,
+    ));
     println!(rt; ", {count} records differ")
 }

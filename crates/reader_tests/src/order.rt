@@ -1,8 +1,5 @@
 // Lines that stand where their kind may not, and which refusal counts where there are two.
-use crate::cases;
-use std::io;
-
-const TEXTS: [(&str, &str); 21] = [
+pub const TEXTS: [(&str, &str); 21] = [
     ("node before problem", "n 1 5\np min 2 0\n"),
     ("node before problem, bad ID", "n 0 5\np min 2 0\n"),
     ("node before problem, out of form", "n 1\np min 2 0\n"),
@@ -49,8 +46,3 @@ const TEXTS: [(&str, &str); 21] = [
         "p min 2 1\nn 1 5\nn 2 -5\na 1 2 0 5 7\n",
     ),
 ];
-
-// Every text.
-pub(crate) fn all(rt: &HostRuntime) -> io::Result<()> {
-    cases::named(rt, &TEXTS, false)
-}

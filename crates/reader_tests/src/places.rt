@@ -1,5 +1,5 @@
 // Taking one line after another, and the reader's place after each.
-use crate::{print, texts};
+use crate::texts;
 use lines::Line;
 use reader::Reader;
 use std::io;
@@ -35,7 +35,7 @@ fn take(rt: &HostRuntime, reader: &mut Reader) -> io::Result<()> {
     match answer {
         Ok(Some(line)) => print_line(rt, line)?,
         Ok(None) => print!(rt; "end")?,
-        Err(refusal) => print::refusal(rt, refusal)?,
+        Err(refusal) => print!(rt; "{refusal}")?,
     }
     println!(rt; ", place {place}")
 }
@@ -67,9 +67,9 @@ const TEXTS: [(&str, usize); 10] = [
 
 // Every text.
 pub(crate) fn all(rt: &HostRuntime) -> io::Result<()> {
-    for (text, calls) in &TEXTS {
+    for &(text, calls) in &TEXTS {
         println!(rt; "{text:?}")?;
-        follow(rt, text.as_bytes(), *calls)?;
+        follow(rt, text.as_bytes(), calls)?;
     }
     Ok(())
 }

@@ -97,24 +97,29 @@ const MOST_ARCS: [&str; 5] = [
     "a 240 240 0 5 7",
 ];
 
-// A frame with tables that are one record longer than any network.
-fn wide(before: &'static str, behind: &'static str) -> Frame {
-    Frame {
-        before,
-        behind,
-        room: Room {
-            stations: 241,
-            legs: 3001,
-        },
-        shown: false,
-    }
-}
+// Tables that are one record longer than any network.
+const WIDE: Room = Room {
+    stations: 241,
+    legs: 3001,
+};
 
 // Every line, where its kind may stand.
 pub(crate) fn all(rt: &HostRuntime) -> io::Result<()> {
-    cases::between(rt, &Frame::shown("p min 3 1\n", "\na 1 2 0 5 7\n"), &NODES)?;
-    cases::between(rt, &Frame::shown("p min 3 1\n", "\n"), &ARCS)?;
-    cases::between(rt, &wide("", "\n"), &PROBLEMS)?;
-    cases::between(rt, &wide("p min 240 1\n", "\na 240 1 0 5 7\n"), &MOST_NODES)?;
-    cases::between(rt, &wide("p min 240 1\n", "\n"), &MOST_ARCS)
+    cases::between(
+        rt,
+        &Frame::new("p min 3 1\n", "\na 1 2 0 5 7\n").shown(),
+        &NODES,
+    )?;
+    cases::between(rt, &Frame::new("p min 3 1\n", "\n").shown(), &ARCS)?;
+    cases::between(rt, &Frame::new("", "\n").within(WIDE), &PROBLEMS)?;
+    cases::between(
+        rt,
+        &Frame::new("p min 240 1\n", "\na 240 1 0 5 7\n").within(WIDE),
+        &MOST_NODES,
+    )?;
+    cases::between(
+        rt,
+        &Frame::new("p min 240 1\n", "\n").within(WIDE),
+        &MOST_ARCS,
+    )
 }

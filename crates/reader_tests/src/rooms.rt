@@ -5,12 +5,9 @@ use text_rules::Room;
 
 // Reads a text into tables of each room: the stations first, then the legs.
 fn into_each(rt: &HostRuntime, name: &str, text: &str, rooms: &[(usize, usize)]) -> io::Result<()> {
-    for (stations, legs) in rooms {
+    for &(stations, legs) in rooms {
         print!(rt; "{name} into {stations} and {legs}: ")?;
-        let room = Room {
-            stations: *stations,
-            legs: *legs,
-        };
+        let room = Room { stations, legs };
         cases::read_into(rt, text.as_bytes(), room, false)?;
     }
     Ok(())

@@ -1,13 +1,10 @@
 // Texts that are accepted, and the networks that they state.
-use crate::cases;
-use std::io;
-
 // As many stations and legs as the tables have room for.
 const EIGHT: &str = "p min 8 8\nn 8 1\n\
     a 1 8 0 1 1\na 2 7 0 2 2\na 3 6 0 3 3\na 4 5 0 4 4\n\
     a 5 4 0 5 5\na 6 3 0 6 6\na 7 2 0 7 7\na 8 1 0 8 8\n";
 
-const TEXTS: [(&str, &str); 11] = [
+pub const TEXTS: [(&str, &str); 11] = [
     ("last node line counts", "p min 3 0\nn 2 5\nn 2 -7\n"),
     ("last node line says 0", "p min 3 0\nn 2 5\nn 2 0\n"),
     (
@@ -38,8 +35,3 @@ const TEXTS: [(&str, &str); 11] = [
     ),
     ("eight and eight", EIGHT),
 ];
-
-// Every text.
-pub(crate) fn all(rt: &HostRuntime) -> io::Result<()> {
-    cases::named(rt, &TEXTS, true)
-}

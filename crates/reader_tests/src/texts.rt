@@ -25,8 +25,7 @@ pub(crate) fn padded(heap: Global, beginning: &str, length: usize) -> Result<Str
 }
 
 // A text and an end.
-pub(crate) fn followed(text: String, end: &str) -> Result<String, AllocError> {
-    let mut text = text;
+pub(crate) fn followed(mut text: String, end: &str) -> Result<String, AllocError> {
     text.push_str(end)?;
     Ok(text)
 }

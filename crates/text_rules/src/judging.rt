@@ -34,11 +34,8 @@ impl Progress {
     fn is_node(&self, id: u32) -> bool
         ensures { result ≡ is_node self.now id }
     {
-        let nodes = match self.header {
-            Some(h) => h.nodes,
-            None => 0,
-        };
-        id >= 1 && id as usize <= nodes
+        let nodes = self.header.map_or(0, |h| h.nodes);
+        (1..=nodes).contains(&(id as usize))
     }
 
     // Whether every field of the line lies in its range.
@@ -47,8 +44,8 @@ impl Progress {
     {
         match line {
             Line::Comment => true,
-            Line::Problem { nodes, arcs } => nodes >= 1 && nodes <= 240 && arcs <= 3000,
-            Line::Node { id, flow } => self.is_node(id) && flow >= -500 && flow <= 500,
+            Line::Problem { nodes, arcs } => (1..=240).contains(&nodes) && arcs <= 3000,
+            Line::Node { id, flow } => self.is_node(id) && (-500..=500).contains(&flow),
             Line::Arc {
                 source,
                 target,

@@ -8,7 +8,7 @@ pub struct Header {
 }
 
 // What the problem line announced, if it has come, and how many arcs have come.
-#[derive(Clone, Copy, Debug)]
+#[derive(Clone, Copy, Debug, Default)]
 pub struct Progress {
     pub header: Option<Header>,
     pub arcs: usize,

@@ -1,19 +1,13 @@
 // Writing a network as its canonical text.
 #![tactic(auto)]
 
-ghost use Rattle.std.specs.Prelude.{◌≡◌, ◌+◌, ◌++◌, map, pos, IfOk, string_bytes, Decides, OnOk};
+ghost use Rattle.std.specs.Prelude.{◌≡◌, ◌++◌, map, pos, IfOk, string_bytes, Decides, OnOk};
 ghost use Rattle.std.specs.List.{flat_map};
 ghost use Rattle.writer.specs.Canonical.{problem_line, node_line, node_lines, arc_line, ended, canonical, ReadBack};
 
 use records::{Leg, Station};
 use std::alloc::{AllocError, Global};
-
-// The ID of a station, by its number.
-fn id_of(station: u16) -> u32
-    ensures { result ≡ station + 1 }
-{
-    u32::from(station) + 1
-}
+use text_rules::id_of;
 
 // Whether a station has nothing to spare and wants nothing.
 fn is_balanced(station: &Station) -> bool

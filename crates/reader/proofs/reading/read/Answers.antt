@@ -10,11 +10,11 @@ returns-then-is_err c =
     let text = c.args.text.now in
     let legs = c.args.legs.now in
     let stations = c.args.stations.now in
-    let filled = filled_handed text _ _ _ _ (length legs) _ (length stations) c.clear_legs.auto.legs c.clear_stations.auto.stations c.fill-answer.ensures in
-    let due : Due c.fill-answer.result (reading (room_of legs stations) text) c.clear_legs-then-is_err.new.legs c.clear_stations-then-is_err.new.stations (length legs) (length stations) =
-    due_refused c.fill-answer.result _ _ _ _ _ (length legs) (length stations) (sym c.is_err.ensures.value ∙ c.if-is_err.true) filled
-    (c.clear_legs-then-is_err.ensures ∙ ap (λ n. replicate n cleared_leg) (c.fill-answer.auto.legs ∙ c.clear_legs.auto.legs))
-    (c.clear_stations-then-is_err.ensures ∙ ap (λ n. replicate n cleared_station) (c.fill-answer.auto.stations ∙ c.clear_stations.auto.stations)) in
+    let filled = filled_handed text _ _ _ _ (length legs) _ (length stations) c.clear.auto.legs c.clear.auto.stations c.read_lines-answer.ensures in
+    let due : Due c.read_lines-answer.result (reading (room_of legs stations) text) c.clear-then-is_err.new.legs c.clear-then-is_err.new.stations (length legs) (length stations) =
+    due_refused c.read_lines-answer.result _ _ _ _ _ (length legs) (length stations) (sym c.is_err.ensures.value ∙ c.if-is_err.true) filled
+    (c.clear-then-is_err.ensures.legs ∙ ap (λ n. replicate n cleared_leg) (c.read_lines-answer.auto.legs ∙ c.clear.auto.legs))
+    (c.clear-then-is_err.ensures.stations ∙ ap (λ n. replicate n cleared_station) (c.read_lines-answer.auto.stations ∙ c.clear.auto.stations)) in
     record { answer = due.answer; legs = due.legs_are; stations = due.stations_are; exactly = exactly_due text (room_of legs stations) _ _ _ due }
 
 pub returns-else-is_err : goal.returns-else-is_err
@@ -22,7 +22,7 @@ returns-else-is_err c =
     let text = c.args.text.now in
     let legs = c.args.legs.now in
     let stations = c.args.stations.now in
-    let filled = filled_handed text _ _ _ _ (length legs) _ (length stations) c.clear_legs.auto.legs c.clear_stations.auto.stations c.fill-answer.ensures in
-    let due : Due c.fill-answer.result (reading (room_of legs stations) text) c.fill-answer.new.legs c.fill-answer.new.stations (length legs) (length stations) =
-    due_accepted c.fill-answer.result _ _ _ (length legs) (length stations) (sym c.is_err.ensures.value ∙ c.if-is_err.false) filled in
+    let filled = filled_handed text _ _ _ _ (length legs) _ (length stations) c.clear.auto.legs c.clear.auto.stations c.read_lines-answer.ensures in
+    let due : Due c.read_lines-answer.result (reading (room_of legs stations) text) c.read_lines-answer.new.legs c.read_lines-answer.new.stations (length legs) (length stations) =
+    due_accepted c.read_lines-answer.result _ _ _ (length legs) (length stations) (sym c.is_err.ensures.value ∙ c.if-is_err.false) filled in
     record { answer = due.answer; legs = due.legs_are; stations = due.stations_are; exactly = exactly_due text (room_of legs stations) _ _ _ due }

@@ -1,24 +1,20 @@
-use Rattle.std.proofs.Common.{◌≡◌, length, subst, arith}
-use Rattle.reader.proofs.RowEnds.{Inside, inside_none, inside_more, row_found, rest_found, row_all, rest_all}
+use Rattle.std.proofs.Common.{◌≡◌, length, rules, sym, ◌∙◌}
+use Rattle.std.proofs.lemmas.Iterator.{IsFirst-from_position, YieldsList-from_slice}
+use borrow.Author.Tests.{tests}
+use Rattle.text_rules.specs.Rows.{first_row}
+use Rattle.reader.proofs.RowEnds.{row_end, row_front, row_behind}
 use Rattle.reader.proofs.taking.row_length.Goals as goal
 
-pub loop-i-init : goal.loop-i-init
-loop-i-init c = inside_none c.args.s.now
+-- the first row is so long
+long : (c : goal.After-unwrap_or) → length (first_row c.args.s.now) ≡ c.unwrap_or.result
+long c =
+    row_end c.args.s.now c.position.result
+    (IsFirst-from_position _ _ c.position.result (λ b. b ≡ 10) (λ b. b ≡ 10 → ⊥) c.position.ensures.ran (YieldsList-from_slice c.args.s.now cc)
+    (λ x q k. search (rules, tests)) (λ x q k. search (rules, tests)))
+    ∙ sym c.unwrap_or.ensures
 
-pub loop-i-preserved : goal.loop-i-preserved
-loop-i-preserved c = inside_more c.args.s.now c.loop-i.i c.loop-i-test.true c.if-b-eq10.false c.loop-i.invariant
+pub returns-clause-row : goal.returns-clause-row
+returns-clause-row c = row_front c.args.s.now _ (long c)
 
-pub returns-then-b-eq10 : goal.returns-then-b-eq10
-returns-then-b-eq10 c =
-    record {
-      row = row_found c.args.s.now c.loop-i.i c.loop-i-test.true c.if-b-eq10.true c.loop-i.invariant;
-      within = omega arith;
-      rest = rest_found c.args.s.now c.loop-i.i c.loop-i-test.true c.if-b-eq10.true c.loop-i.invariant;
-    }
-
-pub returns : goal.returns
-returns c =
-    let s = c.args.s.now in
-    let e : c.loop-i.i ≡ length s = omega arith in
-    let all = subst (Inside s) e c.loop-i.invariant in
-    record { row = row_all s (length s) (omega arith) all; within = omega arith; rest = rest_all s (length s) (omega arith) all }
+pub returns-clause-rest : goal.returns-clause-rest
+returns-clause-rest c = row_behind c.args.s.now _ (long c)
