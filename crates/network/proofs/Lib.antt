@@ -1,3 +1,4 @@
 pub mod Places
 pub mod Faults
 pub mod Reported
+pub mod Totals

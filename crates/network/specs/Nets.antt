@@ -2,9 +2,10 @@
 --   Rule       what stations that are not open have after a report
 --   Net        the meaning of a network: legs with marks, balances, two counts and a rule
 --   marks_of   the marks of legs, in their order
+--   total      the sum of balances
 --   unasked    the rule of a network whose stations are all open
 --   Within     the limits of every network
-use Rattle.std.specs.Prelude.{ℕ, ◌≤◌, List, map, length, ℤ, pos}
+use Rattle.std.specs.Prelude.{ℕ, ◌≤◌, List, map, length, ℤ, pos, ◌+ℤ◌, fold}
 use Rattle.records.specs.declared.leg.Leg.{Leg}
 use Rattle.records.specs.declared.leg.Mark.{Mark}
 
@@ -24,6 +25,10 @@ pub record Net : Type 0 where
 -- the marks alone
 abbrev pub marks_of : List Leg → List Mark
 marks_of ls = map (λ (l : Leg). l.mark) ls
+
+-- one balance after the other is added
+abbrev pub total : List ℤ → ℤ
+total bs = fold ◌+ℤ◌ (pos 0) bs
 
 -- it is asked for no station
 abbrev pub unasked : Rule

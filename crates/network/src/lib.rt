@@ -2,12 +2,12 @@
 // them. Each is promised by the network's meaning, so that code above is proved once for all.
 #![tactic(auto)]
 
-ghost use Rattle.std.specs.Prelude.{◌≡◌, length};
+ghost use Rattle.std.specs.Prelude.{◌≡◌, length, pos, slice_index_or};
 ghost use Rattle.std.specs.List.{slice_get};
 ghost use Rattle.records.specs.declared.leg.Mark.TheVariants.{Open, Shut};
 ghost use Rattle.network.specs.Keeping.{Keeps};
-ghost use Rattle.network.specs.Nets.{Net, Within};
-ghost use Rattle.network.specs.Offices.{Answers, Marks, Reports, mark_fault, report_fault, same_mark};
+ghost use Rattle.network.specs.Nets.{Net, Within, total};
+ghost use Rattle.network.specs.Offices.{Answers, Marks, Reports, mark_fault, report_fault};
 
 use records::{Leg, Mark, Refusal};
 
@@ -67,31 +67,42 @@ pub trait Office: Network {
         ensures answer { Reports result (Self.Network.meaning self.old) (Self.Network.meaning self.new) station balance }
         ensures kept { kept self.old self.new };
 
-    // A road leg that is open is shut.
-    fn close(&mut self, leg: usize) -> Result<(), Refusal>
-        ensures answer { Marks result (Self.Network.meaning self.old) (Self.Network.meaning self.new) leg Shut }
+    // A road leg gets a mark that it does not have: it is closed or reopened.
+    fn set_mark(&mut self, leg: usize, mark: Mark) -> Result<(), Refusal>
+        ensures answer { Marks result (Self.Network.meaning self.old) (Self.Network.meaning self.new) leg mark }
         ensures kept { kept self.old self.new };
+
+    // A road leg that is open is shut.
+    final fn close(&mut self, leg: usize) -> Result<(), Refusal>
+        ensures answer { Marks result (Self.Network.meaning self.old) (Self.Network.meaning self.new) leg Shut }
+        ensures kept { kept self.old self.new }
+    {
+        self.set_mark(leg, Mark::Shut)
+    }
 
     // A road leg that is shut is opened again.
-    fn reopen(&mut self, leg: usize) -> Result<(), Refusal>
+    final fn reopen(&mut self, leg: usize) -> Result<(), Refusal>
         ensures answer { Marks result (Self.Network.meaning self.old) (Self.Network.meaning self.new) leg Open }
-        ensures kept { kept self.old self.new };
+        ensures kept { kept self.old self.new }
+    {
+        self.set_mark(leg, Mark::Open)
+    }
 }
 
-// Whether two marks are the same.
-pub fn same_mark(one: Mark, other: Mark) -> bool
-    ensures { result ≡ same_mark one other }
+// The balance of a station, 0 of one that is not there.
+pub fn balance_of<N: Network>(network: &N, station: usize) -> i32
+    ensures { result ≡ slice_index_or (N.Network.meaning network.now).balances station (pos 0) }
 {
-    match one {
-        Mark::Open => match other {
-            Mark::Open => true,
-            Mark::Shut => false,
-        },
-        Mark::Shut => match other {
-            Mark::Open => false,
-            Mark::Shut => true,
-        },
-    }
+    network.balance(station).unwrap_or(0)
+}
+
+// The sum of all balances.
+pub fn total_balance<N: Network>(network: &N) -> i64
+    ensures { result ≡ total (N.Network.meaning network.now).balances }
+{
+    (0..network.stations())
+        .map(|station| i64::from(balance_of(network, station)))
+        .sum()
 }
 
 // Whether a station may report a balance, where so many stations are open.
@@ -101,7 +112,7 @@ pub fn check_report(open_stations: usize, station: usize, balance: i32) -> Resul
     if station >= open_stations {
         return Err(Refusal::StationNotOpen { station });
     }
-    if balance < -MOST_REPORTED || balance > MOST_REPORTED {
+    if !(-MOST_REPORTED..=MOST_REPORTED).contains(&balance) {
         return Err(Refusal::BalanceOutOfRange { station });
     }
     Ok(())
@@ -114,10 +125,8 @@ pub fn check_mark<N: Network>(network: &N, leg: usize, mark: Mark) -> Result<(),
     if leg >= network.road_legs() {
         return Err(Refusal::NotARoadLeg { leg });
     }
-    let Some(found) = network.leg(leg) else {
-        return Err(Refusal::NotARoadLeg { leg });
-    };
-    if same_mark(found.mark, mark) {
+    let found = network.leg(leg).ok_or(Refusal::NotARoadLeg { leg })?;
+    if found.mark == mark {
         return Err(Refusal::MarkUnchanged { leg });
     }
     Ok(())

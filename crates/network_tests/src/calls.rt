@@ -1,54 +1,83 @@
 // Makes the calls of an office, and prints what each answered.
 use crate::print;
 use network::Office;
-use std::io;
+use std::{fmt, io};
 
-// A station reports.
-pub(crate) fn report<N: Office>(
-    rt: &HostRuntime,
-    office: &mut N,
-    station: usize,
-    balance: i32,
-) -> io::Result<()> {
-    let answer = office.report(station, balance);
-    print!(rt; "  report {station} {balance}")?;
-    print::answer(rt, answer)
+// A call of an office.
+#[derive(Clone, Copy)]
+pub(crate) enum Call {
+    Report { station: usize, balance: i32 },
+    Close { leg: usize },
+    Reopen { leg: usize },
 }
 
-// A leg is closed.
-pub(crate) fn close<N: Office>(rt: &HostRuntime, office: &mut N, leg: usize) -> io::Result<()> {
-    let answer = office.close(leg);
-    print!(rt; "  close {leg}")?;
-    print::answer(rt, answer)
+impl fmt::Display for Call {
+    fn fmt<W: fmt::Write>(&self, f: &mut fmt::Formatter<W>) -> fmt::Result {
+        match *self {
+            Call::Report { station, balance } => write!(f, "report {station} {balance}"),
+            Call::Close { leg } => write!(f, "close {leg}"),
+            Call::Reopen { leg } => write!(f, "reopen {leg}"),
+        }
+    }
 }
 
-// A leg is reopened.
-pub(crate) fn reopen<N: Office>(rt: &HostRuntime, office: &mut N, leg: usize) -> io::Result<()> {
-    let answer = office.reopen(leg);
-    print!(rt; "  reopen {leg}")?;
+// One call.
+pub(crate) fn make<N: Office>(rt: &HostRuntime, office: &mut N, call: Call) -> io::Result<()> {
+    let answer = match call {
+        Call::Report { station, balance } => office.report(station, balance),
+        Call::Close { leg } => office.close(leg),
+        Call::Reopen { leg } => office.reopen(leg),
+    };
+    print!(rt; "  {call}")?;
     print::answer(rt, answer)
 }
 
 // Every refusal on both sides of its limit, and which of two counts.
 pub(crate) fn refusals<N: Office>(rt: &HostRuntime, office: &mut N) -> io::Result<()> {
-    let open = office.open_stations();
-    let roads = office.road_legs();
-    report(rt, office, open, 0)?;
-    report(rt, office, open, 501)?;
-    report(rt, office, open.saturating_sub(1), 501)?;
-    report(rt, office, open.saturating_sub(1), -501)?;
-    report(rt, office, open.saturating_sub(1), 500)?;
-    report(rt, office, open.saturating_sub(1), -500)?;
-    close(rt, office, roads)?;
-    reopen(rt, office, roads)?;
-    reopen(rt, office, roads.saturating_sub(1))?;
-    close(rt, office, roads.saturating_sub(1))?;
-    close(rt, office, roads.saturating_sub(1))
+    let closed = office.open_stations();
+    let station = closed.saturating_sub(1);
+    let beyond = office.road_legs();
+    let leg = beyond.saturating_sub(1);
+    let calls = [
+        Call::Report {
+            station: closed,
+            balance: 0,
+        },
+        Call::Report {
+            station: closed,
+            balance: 501,
+        },
+        Call::Report {
+            station,
+            balance: 501,
+        },
+        Call::Report {
+            station,
+            balance: -501,
+        },
+        Call::Report {
+            station,
+            balance: 500,
+        },
+        Call::Report {
+            station,
+            balance: -500,
+        },
+        Call::Close { leg: beyond },
+        Call::Reopen { leg: beyond },
+        Call::Reopen { leg },
+        Call::Close { leg },
+        Call::Close { leg },
+    ];
+    for call in calls {
+        make(rt, office, call)?;
+    }
+    Ok(())
 }
 
 // The leg that `refusals` leaves shut is opened again, twice.
 pub(crate) fn reopenings<N: Office>(rt: &HostRuntime, office: &mut N) -> io::Result<()> {
-    let roads = office.road_legs();
-    reopen(rt, office, roads.saturating_sub(1))?;
-    reopen(rt, office, roads.saturating_sub(1))
+    let leg = office.road_legs().saturating_sub(1);
+    make(rt, office, Call::Reopen { leg })?;
+    make(rt, office, Call::Reopen { leg })
 }

@@ -32,12 +32,6 @@ fn leg_of_pile(
 pub(crate) fn legs(rt: &HostRuntime) -> io::Result<()> {
     let mut legs = LEGS;
     let mut stations = STATIONS;
-    let Some(below) = leg_of_pile(&mut legs, &mut stations, 3, 10_001, 0) else {
-        return println!(rt; "  absent");
-    };
-    print::leg_record(rt, below)?;
-    let Some(added) = leg_of_pile(&mut legs, &mut stations, 3, 10_001, 8) else {
-        return println!(rt; "  absent");
-    };
-    print::leg_record(rt, added)
+    print::found_leg(rt, leg_of_pile(&mut legs, &mut stations, 3, 10_001, 0))?;
+    print::found_leg(rt, leg_of_pile(&mut legs, &mut stations, 3, 10_001, 8))
 }

@@ -1,4 +1,5 @@
 // Piles of layers, three and four deep, with every call.
+use crate::calls::Call;
 use crate::tables::{LEGS, STATIONS};
 use crate::{calls, print};
 use network::{Network, Office};
@@ -14,7 +15,11 @@ fn run<N: Office>(rt: &HostRuntime, name: &str, pile: &mut N) -> io::Result<()> 
     calls::refusals(rt, pile)?;
     print::all(rt, name, pile)?;
     calls::reopenings(rt, pile)?;
-    calls::report(rt, pile, 0, 7)?;
+    let report = Call::Report {
+        station: 0,
+        balance: 7,
+    };
+    calls::make(rt, pile, report)?;
     print::all(rt, name, pile)
 }
 

@@ -1,6 +1,6 @@
 // Prints what a network answers.
 use network::Network;
-use records::{Leg, Mark, Refusal};
+use records::{Leg, Refusal};
 use std::io;
 
 // The four counts.
@@ -12,14 +12,6 @@ pub(crate) fn counts<N: Network>(rt: &HostRuntime, name: &str, network: &N) -> i
     println!(rt; "{name}: n {n} m {m} a {a} r {r}")
 }
 
-// A mark as a word.
-pub(crate) fn mark_word(mark: Mark) -> &'static str {
-    match mark {
-        Mark::Open => "open",
-        Mark::Shut => "shut",
-    }
-}
-
 // What a leg record holds.
 pub(crate) fn leg_record(rt: &HostRuntime, leg: Leg) -> io::Result<()> {
     let Leg {
@@ -29,25 +21,29 @@ pub(crate) fn leg_record(rt: &HostRuntime, leg: Leg) -> io::Result<()> {
         charge,
         mark,
     } = leg;
-    let word = mark_word(mark);
-    println!(rt; "{start} to {end}, capacity {capacity}, charge {charge}, {word}")
+    println!(rt; "{start} to {end}, capacity {capacity}, charge {charge}, {mark}")
+}
+
+// A leg record, or that there is none.
+pub(crate) fn found_leg(rt: &HostRuntime, found: Option<Leg>) -> io::Result<()> {
+    match found {
+        Some(leg) => leg_record(rt, leg),
+        None => println!(rt; "absent"),
+    }
 }
 
 // A leg, or that there is none.
 pub(crate) fn leg<N: Network>(rt: &HostRuntime, network: &N, number: usize) -> io::Result<()> {
     print!(rt; "  leg {number}: ")?;
-    let Some(leg) = network.leg(number) else {
-        return println!(rt; "absent");
-    };
-    leg_record(rt, leg)
+    found_leg(rt, network.leg(number))
 }
 
 // A balance, or that there is none.
 pub(crate) fn balance<N: Network>(rt: &HostRuntime, network: &N, station: usize) -> io::Result<()> {
-    let Some(balance) = network.balance(station) else {
-        return println!(rt; "  station {station}: absent");
-    };
-    println!(rt; "  station {station}: {balance}")
+    match network.balance(station) {
+        Some(balance) => println!(rt; "  station {station}: {balance}"),
+        None => println!(rt; "  station {station}: absent"),
+    }
 }
 
 // Everything that a network answers, and one number beyond each count.
@@ -59,7 +55,7 @@ pub(crate) fn all<N: Network>(rt: &HostRuntime, name: &str, network: &N) -> io::
 
 // Every balance, and one number beyond.
 pub(crate) fn balances<N: Network>(rt: &HostRuntime, network: &N) -> io::Result<()> {
-    for station in 0..network.stations() + 1 {
+    for station in 0..=network.stations() {
         balance(rt, network, station)?;
     }
     Ok(())
@@ -67,7 +63,7 @@ pub(crate) fn balances<N: Network>(rt: &HostRuntime, network: &N) -> io::Result<
 
 // Every leg, and one number beyond.
 pub(crate) fn legs<N: Network>(rt: &HostRuntime, network: &N) -> io::Result<()> {
-    for number in 0..network.legs() + 1 {
+    for number in 0..=network.legs() {
         leg(rt, network, number)?;
     }
     Ok(())
@@ -75,10 +71,8 @@ pub(crate) fn legs<N: Network>(rt: &HostRuntime, network: &N) -> io::Result<()> 
 
 // What a call answered.
 pub(crate) fn answer(rt: &HostRuntime, answer: Result<(), Refusal>) -> io::Result<()> {
-    let Err(refusal) = answer else {
-        return println!(rt; ": accepted");
-    };
-    let number = refusal.number();
-    let place = refusal.place();
-    println!(rt; ": refused {number} {place}")
+    match answer {
+        Ok(()) => println!(rt; ": accepted"),
+        Err(refusal) => println!(rt; ": {refusal}"),
+    }
 }

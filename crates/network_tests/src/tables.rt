@@ -1,4 +1,5 @@
 // Tables on lent records.
+use crate::calls::Call;
 use crate::{calls, print};
 use network::{Network, Office};
 use records::{Leg, Mark, Station};
@@ -112,8 +113,8 @@ pub(crate) fn long(rt: &HostRuntime) -> io::Result<()> {
     calls::refusals(rt, &mut table)?;
     print::leg(rt, &table, 2999)?;
     print::balance(rt, &table, 239)?;
-    let last = print::mark_word(legs[2999].mark);
-    let beyond = print::mark_word(legs[3000].mark);
+    let last = legs[2999].mark;
+    let beyond = legs[3000].mark;
     let reported = stations[239].balance;
     let kept = stations[240].balance;
     println!(rt; "  records: {last} {beyond} {reported} {kept}")
@@ -128,18 +129,22 @@ pub(crate) fn lent(rt: &HostRuntime) -> io::Result<()> {
             legs: &mut legs,
             stations: &mut stations,
         };
-        calls::close(rt, &mut table, 0)?;
-        calls::reopen(rt, &mut table, 1)?;
-        calls::report(rt, &mut table, 2, 11)?;
+        let calls = [
+            Call::Close { leg: 0 },
+            Call::Reopen { leg: 1 },
+            Call::Report {
+                station: 2,
+                balance: 11,
+            },
+        ];
+        for call in calls {
+            calls::make(rt, &mut table, call)?;
+        }
     }
     for leg in &legs {
         print!(rt; "  record: ")?;
         print::leg_record(rt, *leg)?;
     }
-    let stations = [
-        stations[0].balance,
-        stations[1].balance,
-        stations[2].balance,
-    ];
-    println!(rt; "  balances {stations:?}")
+    let balances = stations.map(|record| record.balance);
+    println!(rt; "  balances {balances:?}")
 }

@@ -23,36 +23,13 @@ pub(crate) fn limits(rt: &HostRuntime) -> io::Result<()> {
             3,
         ),
     )?;
-    print::legs(
-        rt,
-        &VanLimit::new(
-            Table {
-                legs: &mut legs,
-                stations: &mut stations,
-            },
-            0,
-        ),
-    )?;
-    print::legs(
-        rt,
-        &VanLimit::new(
-            Table {
-                legs: &mut legs,
-                stations: &mut stations,
-            },
-            500,
-        ),
-    )?;
-    print::legs(
-        rt,
-        &VanLimit::new(
-            Table {
-                legs: &mut legs,
-                stations: &mut stations,
-            },
-            501,
-        ),
-    )?;
+    for limit in [0, 500, 501] {
+        let table = Table {
+            legs: &mut legs,
+            stations: &mut stations,
+        };
+        print::legs(rt, &VanLimit::new(table, limit))?;
+    }
     print::all(
         rt,
         "two van limits",

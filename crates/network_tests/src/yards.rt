@@ -6,66 +6,32 @@ use std::io;
 use table::Table;
 use yard::Yard;
 
-// A yard over stations with these balances, and no leg.
+// A station with a balance.
+fn with(balance: i32) -> Station {
+    Station { balance }
+}
+
+// A yard over these stations and no leg.
 fn over(rt: &HostRuntime, stations: &mut [Station], charge: u32) -> io::Result<()> {
-    let mut none: [Leg; 0] = [];
-    print::all(
-        rt,
-        "yard",
-        &Yard::new(
-            Table {
-                legs: &mut none,
-                stations,
-            },
-            charge,
-        ),
-    )
+    let mut legs: [Leg; 0] = [];
+    let table = Table {
+        legs: &mut legs,
+        stations,
+    };
+    print::all(rt, "yard", &Yard::new(table, charge))
 }
 
 // The negated sum, on both sides of where it is held, and beyond 32 bits.
 pub(crate) fn sums(rt: &HostRuntime) -> io::Result<()> {
     over(rt, &mut [], 25)?;
-    over(rt, &mut [Station { balance: 3 }], 25)?;
-    over(rt, &mut [Station { balance: 120_000 }], 10_000)?;
-    over(rt, &mut [Station { balance: 120_001 }], 10_001)?;
-    over(rt, &mut [Station { balance: -120_000 }], 0)?;
-    over(rt, &mut [Station { balance: -120_001 }], 0)?;
-    over(
-        rt,
-        &mut [
-            Station {
-                balance: 2_147_483_647,
-            },
-            Station {
-                balance: 2_147_483_647,
-            },
-        ],
-        1,
-    )?;
-    over(
-        rt,
-        &mut [
-            Station {
-                balance: -2_147_483_648,
-            },
-            Station {
-                balance: -2_147_483_648,
-            },
-        ],
-        1,
-    )?;
-    over(
-        rt,
-        &mut [
-            Station {
-                balance: 2_147_483_647,
-            },
-            Station {
-                balance: -2_147_483_648,
-            },
-        ],
-        1,
-    )
+    over(rt, &mut [with(3)], 25)?;
+    over(rt, &mut [with(120_000)], 10_000)?;
+    over(rt, &mut [with(120_001)], 10_001)?;
+    over(rt, &mut [with(-120_000)], 0)?;
+    over(rt, &mut [with(-120_001)], 0)?;
+    over(rt, &mut [with(i32::MAX), with(i32::MAX)], 1)?;
+    over(rt, &mut [with(i32::MIN), with(i32::MIN)], 1)?;
+    over(rt, &mut [with(i32::MAX), with(i32::MIN)], 1)
 }
 
 // The counts of a yard over so many lent records.

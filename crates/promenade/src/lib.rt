@@ -2,15 +2,19 @@
 // neighbours, all of one capacity and one charge.
 #![tactic(auto)]
 
-ghost use Rattle.std.specs.Prelude.{◌≡◌, ◌<◌, ◌≤◌, min};
+ghost use Rattle.std.specs.Prelude.{◌≡◌, ◌<◌, ◌≤◌, min, slice_index_or};
+ghost use Rattle.records.specs.declared.leg.Mark.TheVariants.{Open};
 ghost use Rattle.network.specs.Keeping.{nothing};
-ghost use Rattle.promenade.specs.Promenades.{fresh, promenade, promenade_leg, promenade_within, row_legs};
+ghost use Rattle.promenade.specs.Promenades.{fresh, promenade, promenade_leg, promenade_within};
 
 use network::{Network, Office, check_mark, check_report};
 use records::{Leg, Mark, Refusal};
 
 // The most stations of a row.
 const MOST_ROW: usize = 40;
+
+// The most legs of a row: two for each station but the last.
+const MOST_ROW_LEGS: usize = 2 * (MOST_ROW - 1);
 
 // The highest capacity of a row's legs.
 const MOST_CAPACITY: u16 = 500;
@@ -24,8 +28,8 @@ pub struct Promenade {
     stations: usize,
     capacity: u16,
     charge: u32,
-    balances: [i32; 40],
-    marks: [Mark; 78],
+    balances: [i32; MOST_ROW],
+    marks: [Mark; MOST_ROW_LEGS],
     ghost short: { stations ≤ 40 },
 }
 
@@ -42,45 +46,33 @@ impl Promenade {
             stations,
             capacity,
             charge,
-            balances: [0; 40],
-            marks: [Mark::Open; 78],
+            balances: [0; MOST_ROW],
+            marks: [Mark::Open; MOST_ROW_LEGS],
+        }
+    }
+
+    // One leg of the row.
+    fn leg_of(&self, number: usize) -> Leg
+        requires { number < 78 }
+        ensures { result ≡ promenade_leg self.now.capacity self.now.charge (slice_index_or self.now.marks number Open) number }
+    {
+        let station = (number / 2) as u16;
+        let (start, end) = if number % 2 == 0 {
+            (station, station + 1)
+        } else {
+            (station + 1, station)
+        };
+        Leg {
+            start,
+            end,
+            capacity: self.capacity,
+            charge: self.charge,
+            mark: self.marks[number],
         }
     }
 }
 
-// How many legs a row of stations has.
-fn count_legs(stations: usize) -> usize
-    requires { stations ≤ 40 }
-    ensures { (result ≡ row_legs stations) × (result ≤ 78) }
-{
-    2 * stations.saturating_sub(1)
-}
-
-// One leg of a row.
-fn leg_of(capacity: u16, charge: u32, mark: Mark, number: usize) -> Leg
-    requires { number < 78 }
-    ensures { result ≡ promenade_leg capacity charge mark number }
-{
-    let station = (number / 2) as u16;
-    if number % 2 == 0 {
-        Leg {
-            start: station,
-            end: station + 1,
-            capacity,
-            charge,
-            mark,
-        }
-    } else {
-        Leg {
-            start: station + 1,
-            end: station,
-            capacity,
-            charge,
-            mark,
-        }
-    }
-}
-
+#[tactic(auto, using(network::proofs::Places::counted))]
 impl Network for Promenade {
     ghost meaning = { λ s. promenade s.stations s.capacity s.charge s.balances s.marks };
 
@@ -91,31 +83,23 @@ impl Network for Promenade {
     }
 
     fn legs(&self) -> usize {
-        count_legs(self.stations)
+        2 * self.stations.saturating_sub(1)
     }
 
     fn open_stations(&self) -> usize {
-        self.stations
+        self.stations()
     }
 
     fn road_legs(&self) -> usize {
-        count_legs(self.stations)
+        self.legs()
     }
 
     fn leg(&self, number: usize) -> Option<Leg> {
-        if number < count_legs(self.stations) {
-            Some(leg_of(self.capacity, self.charge, self.marks[number], number))
-        } else {
-            None
-        }
+        (number < self.legs()).then(|| self.leg_of(number))
     }
 
     fn balance(&self, station: usize) -> Option<i32> {
-        if station < self.stations {
-            Some(self.balances[station])
-        } else {
-            None
-        }
+        (station < self.stations).then(|| self.balances[station])
     }
 }
 
@@ -130,15 +114,9 @@ impl Office for Promenade {
         Ok(())
     }
 
-    fn close(&mut self, leg: usize) -> Result<(), Refusal> {
-        check_mark(&*self, leg, Mark::Shut)?;
-        self.marks[leg] = Mark::Shut;
-        Ok(())
-    }
-
-    fn reopen(&mut self, leg: usize) -> Result<(), Refusal> {
-        check_mark(&*self, leg, Mark::Open)?;
-        self.marks[leg] = Mark::Open;
+    fn set_mark(&mut self, leg: usize, mark: Mark) -> Result<(), Refusal> {
+        check_mark(&*self, leg, mark)?;
+        self.marks[leg] = mark;
         Ok(())
     }
 }

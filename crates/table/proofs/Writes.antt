@@ -1,6 +1,7 @@
 -- What one write to a lent record does to the table's meaning.
-use Rattle.std.proofs.Common.{◌≡◌, ℕ, zero, suc, ◌<◌, ◌≤◌, List, [], ◌∷◌, length, get_or, take, drop, set, ℤ, None, sym, refl, ap, ◌∙◌, arith, w32, SFits, to_z, of_z}
+use Rattle.std.proofs.Common.{◌≡◌, ℕ, ◌<◌, ◌≤◌, List, length, get_or, take, drop, set, ℤ, None, sym, ap, ◌∙◌, arith, w32, SFits, to_z, of_z}
 use Rattle.std.proofs.lemmas.List.{length-map, length-take, length-set, map-set, drop-set-lt, get_or-take}
+use Rattle.std.proofs.Math.Seq.{take-set-lt}
 use Rattle.std.proofs.lemmas.Int.{to_z-of_z}
 use Rattle.records.specs.Cleared.{cleared_leg}
 use Rattle.records.specs.declared.leg.Leg.{Leg}
@@ -16,22 +17,19 @@ use Rattle.table.specs.Tables.{balances_of, table_of}
 abbrev having : ℤ → Station
 having z = record { balance = z }
 
--- a write to a front
-take_set_any : {X : Type 0} (n : ℕ) (xs : List X) (i : ℕ) (y : X) → take n (set xs i y) ≡ set (take n xs) i y
-take_set_any zero xs i y = refl
-take_set_any (suc n) [] i y = refl
-take_set_any (suc n) (x ∷ xs) zero y = refl
-take_set_any (suc n) (x ∷ xs) (suc i) y = ap (λ v. x ∷ v) (take_set_any n xs i y)
-
-length_taken_set : {X : Type 0} (n : ℕ) (xs : List X) (i : ℕ) (y : X) → length (take n (set xs i y)) ≡ length (take n xs)
-length_taken_set n xs i y = ap length (take_set_any n xs i y) ∙ length-set (take n xs) i y
-
 -- a place of a front is a place of the whole, below the front's limit
 pub within_front : {X : Type 0} (n : ℕ) (xs : List X) (i : ℕ) → i < length (take n xs) → (i < length xs) × (i < n)
 within_front n xs i h = let k = simp length-take at h in (omega arith, omega arith)
 
-balances_set : (ss : List Station) (i : ℕ) (z : ℤ) → balances_of (take 240 (set ss i (having z))) ≡ set (balances_of (take 240 ss)) i z
-balances_set ss i z = ap balances_of (take_set_any 240 ss i (having z)) ∙ map-set (λ (s : Station). s.balance) (take 240 ss) i (having z)
+-- a write to a front
+write_front : {X : Type 0} (n : ℕ) (xs : List X) (i : ℕ) (y : X) → i < length (take n xs) → take n (set xs i y) ≡ set (take n xs) i y
+write_front n xs i y h = take-set-lt n xs i y (within_front n xs i h).1
+
+same_length : {X : Type 0} (n : ℕ) (xs : List X) (i : ℕ) (y : X) → length (take n (set xs i y)) ≡ length (take n xs)
+same_length n xs i y = simp (length-take, length-set)
+
+balances_set : (ss : List Station) (i : ℕ) (z : ℤ) → i < length (take 240 ss) → balances_of (take 240 (set ss i (having z))) ≡ set (balances_of (take 240 ss)) i z
+balances_set ss i z h = ap balances_of (write_front 240 ss i (having z) h) ∙ map-set (λ (s : Station). s.balance) (take 240 ss) i (having z)
 
 -- an accepted report
 reported_as : (ls : List Leg) (ss : List Station) (s : ℕ) (b : ℤ) → s < length (take 240 ss) → table_of ls (set ss s (having b)) ≡ reported (table_of ls ss) s b
@@ -40,9 +38,9 @@ reported_as ls ss s b h =
     let bs : List ℤ = balances_of (take 240 ss) in
     let few : length bs ≤ a = simp length-map (omega arith) in
     let there : s < length bs = simp length-map h in
-    ap (λ (n : ℕ). let k : Net = record { legs = take 3000 ls; balances = balances_of (take 240 (set ss s (having b))); open_stations = n; road_legs = length (take 3000 ls); rule = unasked } in k) (length_taken_set 240 ss s (having b))
+    ap (λ (n : ℕ). let k : Net = record { legs = take 3000 ls; balances = balances_of (take 240 (set ss s (having b))); open_stations = n; road_legs = length (take 3000 ls); rule = unasked } in k) (same_length 240 ss s (having b))
     ∙ ap (λ (v : List ℤ). let k : Net = record { legs = take 3000 ls; balances = v; open_stations = a; road_legs = length (take 3000 ls); rule = unasked } in k)
-    (balances_set ss s b ∙ all_open a unasked bs (marks_of (take 3000 ls)) s b few there)
+    (balances_set ss s b h ∙ all_open a unasked bs (marks_of (take 3000 ls)) s b few there)
 
 pub report_writes : (ls : List Leg) (ss : List Station) (s : ℕ) (b : ℤ) → report_fault (length (take 240 ss)) s b ≡ None → SFits w32 b
     → table_of ls (set ss s (having (to_z w32 (of_z w32 b)))) ≡ reported (table_of ls ss) s b
@@ -54,9 +52,9 @@ pub mark_writes : (ls : List Leg) (ss : List Station) (i : ℕ) (k : Mark) → m
 mark_writes ls ss i k e =
     let h : i < length (take 3000 ls) = mark_road (length (take 3000 ls)) (take 3000 ls) i k e in
     let x : Leg = with_mark k (get_or ls i cleared_leg) in
-    ap (λ (n : ℕ). let m : Net = record { legs = take 3000 (set ls i x); balances = balances_of (take 240 ss); open_stations = length (take 240 ss); road_legs = n; rule = unasked } in m) (length_taken_set 3000 ls i x)
+    ap (λ (n : ℕ). let m : Net = record { legs = take 3000 (set ls i x); balances = balances_of (take 240 ss); open_stations = length (take 240 ss); road_legs = n; rule = unasked } in m) (same_length 3000 ls i x)
     ∙ ap (λ (v : List Leg). let m : Net = record { legs = v; balances = balances_of (take 240 ss); open_stations = length (take 240 ss); road_legs = length (take 3000 ls); rule = unasked } in m)
-    (take_set_any 3000 ls i x ∙ ap (λ (l : Leg). set (take 3000 ls) i (with_mark k l)) (sym (get_or-take 3000 ls i cleared_leg (within_front 3000 ls i h).1)))
+    (write_front 3000 ls i x h ∙ ap (λ (l : Leg). set (take 3000 ls) i (with_mark k l)) (sym (get_or-take 3000 ls i cleared_leg (within_front 3000 ls i h).1)))
 
 -- a report that code found without fault
 pub report_clear : (ss : List Station) (a s : ℕ) (b : ℤ) → a ≡ length (take 240 ss) → SFits w32 b → report_fault a s (to_z w32 (of_z w32 b)) ≡ None

@@ -2,7 +2,7 @@
 // records hold, also where that makes no sense; reports and closings are written into them.
 #![tactic(auto)]
 
-ghost use Rattle.std.specs.Prelude.{◌≡◌, drop};
+ghost use Rattle.std.specs.Prelude.{◌≡◌, drop, take};
 ghost use Rattle.table.specs.Lent.{kept_four};
 ghost use Rattle.table.specs.Tables.{table_of, table_within};
 
@@ -16,41 +16,43 @@ pub struct Table<'a> {
     pub stations: &'a mut [Station],
 }
 
+// The records that count: as many as there are, and no more than a limit.
+#[tactic(auto, using(std::proofs::lemmas::List::take_min))]
+fn counted<T>(records: &[T], most: usize) -> &[T]
+    ensures { result.now ≡ take most records.now }
+{
+    &records[..most.min(records.len())]
+}
+
 impl<'a> Network for Table<'a> {
     ghost meaning = { λ s. table_of s.legs.now s.stations.now };
 
     ghost limits = { λ s. table_within s.legs.now s.stations.now };
 
     fn stations(&self) -> usize {
-        self.stations.len().min(MOST_STATIONS)
+        counted(self.stations, MOST_STATIONS).len()
     }
 
     fn legs(&self) -> usize {
-        self.legs.len().min(MOST_LEGS)
+        counted(self.legs, MOST_LEGS).len()
     }
 
     fn open_stations(&self) -> usize {
-        self.stations.len().min(MOST_STATIONS)
+        self.stations()
     }
 
     fn road_legs(&self) -> usize {
-        self.legs.len().min(MOST_LEGS)
+        self.legs()
     }
 
     fn leg(&self, number: usize) -> Option<Leg> {
-        if number < self.legs.len().min(MOST_LEGS) {
-            Some(self.legs[number])
-        } else {
-            None
-        }
+        counted(self.legs, MOST_LEGS).get(number).copied()
     }
 
     fn balance(&self, station: usize) -> Option<i32> {
-        if station < self.stations.len().min(MOST_STATIONS) {
-            Some(self.stations[station].balance)
-        } else {
-            None
-        }
+        counted(self.stations, MOST_STATIONS)
+            .get(station)
+            .map(|record| record.balance)
     }
 }
 
@@ -66,15 +68,9 @@ impl<'a> Office for Table<'a> {
         Ok(())
     }
 
-    fn close(&mut self, leg: usize) -> Result<(), Refusal> {
-        check_mark(&*self, leg, Mark::Shut)?;
-        self.legs[leg].mark = Mark::Shut;
-        Ok(())
-    }
-
-    fn reopen(&mut self, leg: usize) -> Result<(), Refusal> {
-        check_mark(&*self, leg, Mark::Open)?;
-        self.legs[leg].mark = Mark::Open;
+    fn set_mark(&mut self, leg: usize, mark: Mark) -> Result<(), Refusal> {
+        check_mark(&*self, leg, mark)?;
+        self.legs[leg].mark = mark;
         Ok(())
     }
 }

@@ -10,7 +10,7 @@ use Rattle.records.specs.declared.refusal.Refusal.{Refusal}
 use Rattle.network.specs.Nets.{Net, Within, marks_of}
 use Rattle.network.specs.Offices.{Reports, Marks, balances_after, has_mark, mark_fault, remarked, reported, with_mark}
 use Rattle.network.proofs.Faults.{mark_road}
-use Rattle.network.proofs.Places.{nth_map}
+use Rattle.std.proofs.lemmas.Option.{slice_get-map}
 use Rattle.van_limit.specs.Limited.{limit_leg, limited}
 
 -- the marks stay
@@ -25,7 +25,7 @@ has_same limit (Some l) k = refl
 same_fault : (limit r : ℕ) (ls : List Leg) (i : ℕ) (k : Mark) → mark_fault r (map (limit_leg limit) ls) i k ≡ mark_fault r ls i k
 same_fault limit r ls i k =
     ap (λ (t : Bool). cond (ltb i r) (cond t (Some (10, i)) None) (Some (9, i)))
-    (ap (λ (o : Option Leg). has_mark o k) (nth_map (limit_leg limit) ls i) ∙ has_same limit (slice_get ls i) k)
+    (ap (λ (o : Option Leg). has_mark o k) (slice_get-map (limit_leg limit) ls i) ∙ has_same limit (slice_get ls i) k)
 
 same_report : (limit : ℕ) (n : Net) (s : ℕ) (b : ℤ) → limited limit (reported n s b) ≡ reported (limited limit n) s b
 same_report limit n s b =

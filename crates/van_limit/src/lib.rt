@@ -6,7 +6,7 @@ ghost use Rattle.network.specs.Keeping.{below as part};
 ghost use Rattle.van_limit.specs.Limited.{limited, limited_within};
 
 use network::{Network, Office};
-use records::{Leg, Refusal};
+use records::{Leg, Mark, Refusal};
 
 // The highest limit.
 const MOST_LIMIT: u16 = 500;
@@ -52,20 +52,14 @@ impl<N: Network> Network for VanLimit<N> {
     }
 
     fn leg(&self, number: usize) -> Option<Leg> {
-        let Some(leg) = self.below.leg(number) else {
-            return None;
-        };
-        Some(Leg {
+        self.below.leg(number).map(|leg| Leg {
             capacity: leg.capacity.min(self.limit),
             ..leg
         })
     }
 
     fn balance(&self, station: usize) -> Option<i32> {
-        let Some(balance) = self.below.balance(station) else {
-            return None;
-        };
-        Some(balance)
+        self.below.balance(station)
     }
 }
 
@@ -78,11 +72,7 @@ impl<N: Office> Office for VanLimit<N> {
         self.below.report(station, balance)
     }
 
-    fn close(&mut self, leg: usize) -> Result<(), Refusal> {
-        self.below.close(leg)
-    }
-
-    fn reopen(&mut self, leg: usize) -> Result<(), Refusal> {
-        self.below.reopen(leg)
+    fn set_mark(&mut self, leg: usize, mark: Mark) -> Result<(), Refusal> {
+        self.below.set_mark(leg, mark)
     }
 }

@@ -1,5 +1,4 @@
 -- What a yard makes of a network.
---   total          the sum of balances
 --   held           a number held within -120,000 to 120,000
 --   yard_balance   the balance of a yard over stations with these balances
 --   yard_leg       one of the legs that a yard adds, by its number among them
@@ -8,7 +7,7 @@
 --   full           there is no room for a yard
 --   with_yard      a network with a yard, or the network itself where that is full
 --   yard_within    it keeps the limits of every network
-use Rattle.std.specs.Prelude.{◌≡◌, ℕ, ◌+◌, ◌*◌, ◌/◌, ◌%◌, Bool, false, cond, ◌||◌, List, [], ◌∷◌, ◌++◌, map, length, take, ℤ, pos, negsuc, ◌+ℤ◌, neg_ℤ, fold, ◌==◌, int_lt, nat_lt}
+use Rattle.std.specs.Prelude.{◌≡◌, ℕ, ◌+◌, ◌*◌, ◌/◌, ◌%◌, Bool, false, cond, ◌||◌, List, [], ◌∷◌, ◌++◌, map, length, take, ℤ, pos, negsuc, neg_ℤ, ◌==◌, int_lt, nat_lt}
 use Rattle.std.proofs.Common.{arith}
 use Rattle.std.specs.List.{range_with_len}
 use Rattle.std.proofs.lemmas.List.FromFn.{length-map-range_with_len}
@@ -16,12 +15,8 @@ use Rattle.std.proofs.lemmas.List.{length-append, length_push}
 use Rattle.std.proofs.lemmas.Bool.{cond_both, or_parts, eqb-false, ltb-false}
 use Rattle.records.specs.declared.leg.Leg.{Leg}
 use Rattle.records.specs.declared.leg.Mark.TheVariants.{Open}
-use Rattle.network.specs.Nets.{Net, Rule, Within}
+use Rattle.network.specs.Nets.{Net, Rule, Within, total}
 use Rattle.network.specs.Offices.{balances_after}
-
--- one balance after the other is added
-abbrev pub total : List ℤ → ℤ
-total bs = fold ◌+ℤ◌ (pos 0) bs
 
 -- the nearer limit where it is outside
 abbrev pub held : ℤ → ℤ

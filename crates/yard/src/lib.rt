@@ -5,9 +5,9 @@
 ghost use Rattle.std.specs.Prelude.{◌≡◌, ◌+◌, ◌*◌, ◌<◌, ◌≤◌, min, length, neg_ℤ};
 ghost use Rattle.std.specs.List.{slice_get};
 ghost use Rattle.network.specs.Keeping.{below as part};
-ghost use Rattle.yard.specs.Yards.{full, held, total, with_yard, yard_leg, yard_within};
+ghost use Rattle.yard.specs.Yards.{full, held, with_yard, yard_leg, yard_within};
 
-use network::{MOST_LEGS, MOST_STATIONS, Network, Office};
+use network::{MOST_LEGS, MOST_STATIONS, Network, Office, total_balance};
 use records::{Leg, Mark, Refusal};
 
 // The capacity of a yard's legs.
@@ -17,7 +17,7 @@ const CAPACITY: u16 = 500;
 const MOST_CHARGE: u32 = 10_000;
 
 // The balance of a yard is held this far from 0.
-const MOST_HELD: i32 = 120_000;
+const MOST_HELD: i64 = 120_000;
 
 // A network with a yard, whose legs all have one charge.
 #[derive(Drop)]
@@ -46,31 +46,11 @@ fn is_full(stations: usize, legs: usize) -> bool
     stations == MOST_STATIONS || legs + 2 * stations > MOST_LEGS
 }
 
-// The sum of all balances.
-fn sum_of<N: Network>(network: &N) -> i64
-    ensures { result ≡ total (N.Network.meaning network.now).balances }
-{
-    let mut sum = 0i64;
-    for station in 0..network.stations() {
-        let Some(balance) = network.balance(station) else {
-            return sum;
-        };
-        sum += balance as i64;
-    }
-    sum
-}
-
 // A sum negated and held within -120,000 to 120,000.
 fn hold(sum: i64) -> i32
     ensures { result ≡ held (neg_ℤ sum) }
 {
-    if sum > MOST_HELD as i64 {
-        return -MOST_HELD;
-    }
-    if sum < -(MOST_HELD as i64) {
-        return MOST_HELD;
-    }
-    -(sum as i32)
+    -(sum.clamp(-MOST_HELD, MOST_HELD) as i32)
 }
 
 // One of the legs that a yard adds over so many stations.
@@ -80,22 +60,17 @@ fn added_leg(charge: u32, stations: usize, number: usize) -> Leg
 {
     let station = (number / 2) as u16;
     let yard = stations as u16;
-    if number % 2 == 0 {
-        Leg {
-            start: station,
-            end: yard,
-            capacity: CAPACITY,
-            charge,
-            mark: Mark::Open,
-        }
+    let (start, end) = if number % 2 == 0 {
+        (station, yard)
     } else {
-        Leg {
-            start: yard,
-            end: station,
-            capacity: CAPACITY,
-            charge,
-            mark: Mark::Open,
-        }
+        (yard, station)
+    };
+    Leg {
+        start,
+        end,
+        capacity: CAPACITY,
+        charge,
+        mark: Mark::Open,
     }
 }
 
@@ -109,11 +84,7 @@ impl<N: Network> Yard<N> {
         if is_full(stations, self.below.legs()) {
             return None;
         }
-        if station == stations {
-            Some(hold(sum_of(&self.below)))
-        } else {
-            None
-        }
+        (station == stations).then(|| hold(total_balance(&self.below)))
     }
 
     // The leg at a number that no leg below has: one of the yard's, or none.
@@ -126,11 +97,7 @@ impl<N: Network> Yard<N> {
         if is_full(stations, legs) {
             return None;
         }
-        if number < legs + 2 * stations {
-            Some(added_leg(self.charge, stations, number - legs))
-        } else {
-            None
-        }
+        (number < legs + 2 * stations).then(|| added_leg(self.charge, stations, number - legs))
     }
 }
 
@@ -167,17 +134,13 @@ impl<N: Network> Network for Yard<N> {
     }
 
     fn leg(&self, number: usize) -> Option<Leg> {
-        let Some(leg) = self.below.leg(number) else {
-            return self.leg_above(number);
-        };
-        Some(leg)
+        self.below.leg(number).or_else(|| self.leg_above(number))
     }
 
     fn balance(&self, station: usize) -> Option<i32> {
-        let Some(balance) = self.below.balance(station) else {
-            return self.balance_above(station);
-        };
-        Some(balance)
+        self.below
+            .balance(station)
+            .or_else(|| self.balance_above(station))
     }
 }
 
@@ -190,11 +153,7 @@ impl<N: Office> Office for Yard<N> {
         self.below.report(station, balance)
     }
 
-    fn close(&mut self, leg: usize) -> Result<(), Refusal> {
-        self.below.close(leg)
-    }
-
-    fn reopen(&mut self, leg: usize) -> Result<(), Refusal> {
-        self.below.reopen(leg)
+    fn set_mark(&mut self, leg: usize, mark: Mark) -> Result<(), Refusal> {
+        self.below.set_mark(leg, mark)
     }
 }

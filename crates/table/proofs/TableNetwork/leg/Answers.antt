@@ -1,9 +1,7 @@
-use Rattle.std.proofs.Common.{sym}
-use Rattle.table.proofs.Fronts.{front_at, front_past}
+use Rattle.std.proofs.Common.{arith}
+use Rattle.std.proofs.lemmas.Grind.{common_steps}
+use Rattle.std.proofs.lemmas.Option.{gets}
 use Rattle.table.proofs.TableNetwork.leg.Goals as goal
 
-pub returns-then-number-min : goal.returns-then-number-min
-returns-then-number-min c = sym (front_at _ _ _ _ _ c.min.ensures c.if-number-min.true)
-
-pub returns-else-number-min : goal.returns-else-number-min
-returns-else-number-min c = sym (front_past _ _ _ _ c.min.ensures c.if-number-min.false)
+pub returns : goal.returns
+returns c = rw (← c.counted.ensures) (grind (arith, common_steps, gets))

@@ -1,12 +1,6 @@
 use Rattle.std.proofs.Common.{ℕ, ◌+◌, ◌*◌, length, ap, ◌∙◌}
-use Rattle.yard.proofs.Answered.{at_counts, legs_room, legs_without}
+use Rattle.yard.proofs.Answered.{at_counts, legs_room}
 use Rattle.yard.proofs.YardNetwork.legs.Goals as goal
-
-pub returns-then-is_full : goal.returns-then-is_full
-returns-then-is_full g c =
-    let n = g.N.Network.meaning c.args.self.now.below in
-    c.legs-legs.ensures
-    ∙ legs_without c.args.self.now.charge n (at_counts _ _ _ n c.stations-stations.ensures c.legs-legs.ensures c.if-is_full.ensures)
 
 pub returns-else-is_full : goal.returns-else-is_full
 returns-else-is_full g c =
