@@ -2,15 +2,16 @@
 -- Such pushes join, and bikes that go from where they are over to where they are lacking are over no more.
 use Rattle.std.proofs.Common.{◌≡◌, ℕ, zero, suc, ◌+◌, ◌-◌, ◌<◌, ◌≤◌, Bool, true, false, cond, eqb, List, [], length, set, ℤ, pos, negsuc, ◌+ℤ◌, ◌-ℤ◌, ◌≤ℤ◌, sym, refl, ap, ◌∙◌, arith}
 use native.Mathlib.Decide.{ℕ_discrete}
-use borrow.Author.Differences.{ints}
+use Rattle.std.proofs.lemmas.Int.{ints}
 use Rattle.std.proofs.lemmas.List.{length-set, get_or-set_same, get_or-set_other}
 use Rattle.std.proofs.lemmas.Bool.{eq-eqb, ne_eqb}
 use Rattle.network.specs.Nets.{Net}
+use Rattle.theory.specs.Arcs.{Arc, gather}
 use Rattle.theory.specs.Trails.{here}
 use Rattle.theory.proofs.Pushing.{gather_set}
 use Rattle.plans.specs.Plans.{sum_below, stations, leg_at, amount, in_force, bikes_out, bikes_in, Fits}
 use Rattle.plans.specs.Cuts.{left_over}
-use Rattle.plans.proofs.Arcing.{arcs_of, no_arc, arcs_length, arcs_at, gathered_out, gathered_in}
+use Rattle.plans.proofs.Arcing.{arc, arcs_of, no_arc, arcs_length, arcs_at, gathered_out, gathered_in}
 use Rattle.certificates.specs.Pushes.{more, fewer, Sent}
 use Rattle.certificates.specs.Totals.{over, all_over}
 
@@ -25,21 +26,21 @@ fits_set net plan k y f h =
       ];
     }
 
-out_set : (net : Net) (plan : List ℕ) (k y : ℕ) → Fits net plan → k < length net.legs → (w : ℕ) → bikes_out net (set plan k y) w + cond (eqb (leg_at net k).start w) (amount plan k) 0 ≡ bikes_out net plan w + cond (eqb (leg_at net k).start w) y 0
-out_set net plan k y f l w =
+-- what gathers at a station, at one end of the legs
+end_set : (end : Arc (ℤ × ℤ) → ℕ) (bikes : List ℕ → ℕ) (net : Net) (plan : List ℕ) (k y w : ℕ) → ((p : List ℕ) → length p ≡ length net.legs → gather end w (arcs_of net []) p ≡ bikes p) → Fits net plan → k < length net.legs
+    → bikes (set plan k y) + cond (eqb (end (arc (leg_at net k) (amount [] k))) w) (amount plan k) 0 ≡ bikes plan + cond (eqb (end (arc (leg_at net k) (amount [] k))) w) y 0
+end_set end bikes net plan k y w e f l =
     let at = arcs_at net.legs (amount []) k l in
     let n = arcs_length net.legs (amount []) in
     let m = length-set plan k y in
     let o = f.one_each in
-    omega (arith, gather_set (λ a. a.from) w no_arc (arcs_of net []) plan k y (omega arith) (omega arith), gathered_out net [] plan w o, gathered_out net [] (set plan k y) w (omega arith), ap (λ a. cond (eqb a.from w) (amount plan k) 0) at, ap (λ a. cond (eqb a.from w) y 0) at)
+    omega (arith, gather_set end w no_arc (arcs_of net []) plan k y (omega arith) (omega arith), e plan o, e (set plan k y) (omega arith), ap (λ a. cond (eqb (end a) w) (amount plan k) 0) at, ap (λ a. cond (eqb (end a) w) y 0) at)
+
+out_set : (net : Net) (plan : List ℕ) (k y : ℕ) → Fits net plan → k < length net.legs → (w : ℕ) → bikes_out net (set plan k y) w + cond (eqb (leg_at net k).start w) (amount plan k) 0 ≡ bikes_out net plan w + cond (eqb (leg_at net k).start w) y 0
+out_set net plan k y f l w = end_set (λ a. a.from) (λ p. bikes_out net p w) net plan k y w (λ p h. gathered_out net [] p w h) f l
 
 in_set : (net : Net) (plan : List ℕ) (k y : ℕ) → Fits net plan → k < length net.legs → (w : ℕ) → bikes_in net (set plan k y) w + cond (eqb (leg_at net k).end w) (amount plan k) 0 ≡ bikes_in net plan w + cond (eqb (leg_at net k).end w) y 0
-in_set net plan k y f l w =
-    let at = arcs_at net.legs (amount []) k l in
-    let n = arcs_length net.legs (amount []) in
-    let m = length-set plan k y in
-    let o = f.one_each in
-    omega (arith, gather_set (λ a. a.to) w no_arc (arcs_of net []) plan k y (omega arith) (omega arith), gathered_in net [] plan w o, gathered_in net [] (set plan k y) w (omega arith), ap (λ a. cond (eqb a.to w) (amount plan k) 0) at, ap (λ a. cond (eqb a.to w) y 0) at)
+in_set net plan k y f l w = end_set (λ a. a.to) (λ p. bikes_in net p w) net plan k y w (λ p h. gathered_in net [] p w h) f l
 
 -- ---- the ends one by one
 here_at : (b u : ℕ) → here b u u ≡ b

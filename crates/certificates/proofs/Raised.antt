@@ -2,7 +2,7 @@
 -- A certificate excludes round trips below zero.
 use Rattle.std.proofs.Common.{◌≡◌, ℕ, zero, suc, ◌+◌, ◌<◌, Bool, true, false, cond, List, ℤ, pos, negsuc, ◌-ℤ◌, ◌<ℤ◌, refl, ap, arith}
 use native.Mathlib.Decide.{ℕ_discrete}
-use borrow.Author.Differences.{ints}
+use Rattle.std.proofs.lemmas.Int.{ints}
 use Rattle.std.proofs.lemmas.Bool.{both_ways}
 use Rattle.network.specs.Nets.{Net}
 use Rattle.theory.proofs.Walking

@@ -1,6 +1,6 @@
 -- The plan to start from fits, and no residual step of it costs less than zero.
 use Rattle.std.proofs.Common.{◌≡◌, ℕ, ◌<◌, ◌≤◌, min, cond, eqb, ltb, leb, List, length, pos, negsuc, neg_ℤ, refl, ap, arith}
-use borrow.Author.Differences.{ints}
+use Rattle.std.proofs.lemmas.Int.{ints}
 use Rattle.std.proofs.lemmas.List.FromFn.{length-map-range_with_len, get_or-map-range_with_len}
 use Rattle.std.proofs.lemmas.Bool.Decides.{nat_tests}
 use Rattle.records.specs.declared.leg.Leg.{Leg}

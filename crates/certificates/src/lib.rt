@@ -4,86 +4,62 @@
 ghost use Rattle.certificates.specs.Theorems.{BalancesTotal, FirstIsCertified, LabelsExtend, LeftOversSum, NoRoundTrip, NoneOverObeys, NothingLeftObeys, PushKeepsCertificate, PushLowersOver, PushMovesEnds, PushesJoin, RoomsSuffice};
 
 // Bikes sent along a tight residual step, not past the standing amount, leave the certificate as it is.
-pub fn push_along_a_tight_step_keeps_the_certificate() -> u8
+pub fn push_along_a_tight_step_keeps_the_certificate()
     ensures { PushKeepsCertificate }
-{
-    0
-}
+{}
 
 // Bikes sent along a residual step leave a plan that fits; only the two ends of the step have another number left over.
-pub fn push_changes_only_the_ends() -> u8
+pub fn push_changes_only_the_ends()
     ensures { PushMovesEnds }
-{
-    0
-}
+{}
 
 // Labels that no residual step undercuts, on stations that no residual step leaves, are part of a certificate.
-pub fn labels_extend_to_a_certificate() -> u8
+pub fn labels_extend_to_a_certificate()
     ensures { LabelsExtend }
-{
-    0
-}
+{}
 
 // The plan that gives a leg without charge what it carries in the standing plan, as far as its capacity in force goes, and
 // every other leg 0, fits, and the potential that is zero everywhere certifies it.
-pub fn first_plan_is_certified() -> u8
+pub fn first_plan_is_certified()
     ensures { FirstIsCertified }
-{
-    0
-}
+{}
 
 // A plan that fits and leaves nothing over at any station obeys.
-pub fn nothing_left_over_obeys() -> u8
+pub fn nothing_left_over_obeys()
     ensures { NothingLeftObeys }
-{
-    0
-}
+{}
 
 // What a plan that fits leaves over at all stations sums to what the balances sum to.
-pub fn left_overs_sum_to_the_balances() -> u8
+pub fn left_overs_sum_to_the_balances()
     ensures { LeftOversSum }
-{
-    0
-}
+{}
 
 // Where the balances sum to 0, a plan that fits and leaves bikes over nowhere obeys.
-pub fn none_over_obeys() -> u8
+pub fn none_over_obeys()
     ensures { NoneOverObeys }
-{
-    0
-}
+{}
 
 // A residual step has room for a bike, and as many bikes as it has room for may go along it at what it costs now.
-pub fn rooms_suffice() -> u8
+pub fn rooms_suffice()
     ensures { RoomsSuffice }
-{
-    0
-}
+{}
 
 // Bikes sent from one station to a second, and from there to a third, are sent from the first to the third.
-pub fn pushes_join() -> u8
+pub fn pushes_join()
     ensures { PushesJoin }
-{
-    0
-}
+{}
 
 // Bikes sent from a station that has them over to one that lacks them are over no more.
-pub fn push_lowers_what_is_over() -> u8
+pub fn push_lowers_what_is_over()
     ensures { PushLowersOver }
-{
-    0
-}
+{}
 
 // A certificate excludes round trips that total below zero, in pairs of cents and bikes.
-pub fn certificate_excludes_round_trips_below_zero() -> u8
+pub fn certificate_excludes_round_trips_below_zero()
     ensures { NoRoundTrip }
-{
-    0
-}
+{}
 
 // The sum of the balances by number is that of their list.
-pub fn balances_total_is_that_of_their_list() -> u8
+pub fn balances_total_is_that_of_their_list()
     ensures { BalancesTotal }
-{
-    0
-}
+{}

@@ -1,10 +1,6 @@
 -- The prices of the three stations while all bikes go over station 1.
-use mathlib.Core.List.{List, [], ◌∷◌}
-use mathlib.Core.Path.{◌≡◌, refl}
-use Prim.Native.Nat.{ℕ, zero, suc, ◌<◌}
-use native.Mathlib.Omega.{arith}
-use lib.IntN.{ℤ, pos, negsuc, ◌+ℤ◌}
-use lib.Signed.{◌≤ℤ◌, le_z_yes}
+use Rattle.std.proofs.Common.{◌≡◌, ℕ, zero, suc, ◌<◌, List, [], ◌∷◌, ℤ, pos, negsuc, ◌+ℤ◌, ◌≤ℤ◌, refl, arith}
+use Rattle.std.specs.Int.Signed.{le_z_yes}
 use Rattle.network.specs.Nets.{Net}
 use Rattle.theory.specs.Groups.{whole}
 use Rattle.theory.specs.Walks.{start, step, Label}

@@ -1,12 +1,8 @@
 -- The cuts where no bike can go on from station 1: of the lists of different stations only two have more to spare than
 -- can leave them.
-use mathlib.Core.List.{List, [], ◌∷◌}
-use mathlib.Core.Logic.{◌⊎◌, inl, inr, ◌↔◌}
-use mathlib.Core.Path.{◌≡◌, refl, subst}
-use Prim.Native.Nat.{ℕ, ◌<◌}
-use native.Mathlib.Omega.{arith}
-use borrow.Author.Differences.{ints}
-use lib.Signed.{lt_z_yes}
+use Rattle.std.proofs.Common.{◌≡◌, ℕ, ◌<◌, ◌⊎◌, ◌↔◌, List, [], ◌∷◌, refl, subst, inl, inr, arith}
+use Rattle.std.proofs.lemmas.Int.{ints}
+use Rattle.std.specs.Int.Signed.{lt_z_yes}
 use Rattle.plans.specs.Cuts.{Cut}
 use Rattle.examples.specs.Networks.{T_shut}
 use Rattle.examples.proofs.Places.{below_three}

@@ -1,9 +1,5 @@
 -- Of a standing plan only the amounts on the legs count.
-use mathlib.Core.List.{List}
-use mathlib.Core.Path.{◌≡◌, refl, sym, ap, ◌∙◌}
-use Prim.Native.Nat.{ℕ, zero, suc, ◌<◌}
-use native.Mathlib.Omega.{arith}
-use lib.ListN.{length}
+use Rattle.std.proofs.Common.{◌≡◌, ℕ, zero, suc, ◌<◌, List, length, sym, refl, ap, ◌∙◌, arith}
 use Rattle.network.specs.Nets.{Net}
 use Rattle.plans.specs.Plans.{sum_below, amount, apart, difference, CheapestThenNearest}
 use Rattle.examples.specs.Examples.{OnlyBest, Alike}

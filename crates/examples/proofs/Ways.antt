@@ -1,10 +1,6 @@
 -- Three stations, with a leg from 0 to 1, one from 1 to 2 and one from 0 to 2: which plans obey, and which is best.
-use mathlib.Core.List.{List, [], ◌∷◌}
-use mathlib.Core.Path.{◌≡◌, refl}
-use Prim.Native.Nat.{ℕ, ◌+◌, ◌≤◌}
-use native.Mathlib.Omega.{arith}
-use borrow.Author.Differences.{ints}
-use lib.IntN.{pos, negsuc, ◌-ℤ◌}
+use Rattle.std.proofs.Common.{◌≡◌, ℕ, ◌+◌, ◌≤◌, List, [], ◌∷◌, pos, negsuc, ◌-ℤ◌, refl, arith}
+use Rattle.std.proofs.lemmas.Int.{ints}
 use Rattle.records.specs.declared.leg.Mark.{Mark}
 use Rattle.records.specs.declared.leg.Mark.TheVariants.{Open, Shut}
 use Rattle.network.specs.Nets.{Net, unasked}

@@ -1,10 +1,6 @@
 -- One station and a yard, with a leg each way: which plans obey, and which is best.
-use mathlib.Core.List.{List, [], ◌∷◌}
-use mathlib.Core.Path.{◌≡◌, refl}
-use Prim.Native.Nat.{ℕ, ◌+◌, ◌≤◌}
-use native.Mathlib.Omega.{arith}
-use borrow.Author.Differences.{ints}
-use lib.IntN.{pos, ◌-ℤ◌}
+use Rattle.std.proofs.Common.{◌≡◌, ℕ, ◌+◌, ◌≤◌, List, [], ◌∷◌, pos, ◌-ℤ◌, refl, arith}
+use Rattle.std.proofs.lemmas.Int.{ints}
 use Rattle.plans.specs.Plans.{leg_at, amount, balance_at, in_force, bikes_out, bikes_in, Obeys, cents, difference}
 use Rattle.examples.specs.Networks.{lone_yard}
 use Rattle.examples.specs.Examples.{OnlyBest}

@@ -4,8 +4,6 @@
 ghost use Rattle.examples.specs.Examples.{WorkedExamples};
 
 // What the rules allow on each of the networks, and that they allow nothing else.
-pub fn worked_examples() -> u8
+pub fn worked_examples()
     ensures { WorkedExamples }
-{
-    0
-}
+{}

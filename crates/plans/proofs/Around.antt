@@ -1,6 +1,6 @@
 -- The best plan admits no round trip below zero: one bike sent around it would make a better plan.
-use Rattle.std.proofs.Common.{◌≡◌, ℕ, zero, suc, ◌<◌, ◌≤◌, cond, ltb, List, length, get_or, ℤ, pos, negsuc, ◌+ℤ◌, neg_ℤ, sym, refl, ap, ◌∙◌, subst, arith}
-use borrow.Author.Differences.{ints}
+use Rattle.std.proofs.Common.{◌≡◌, ℕ, suc, ◌-◌, ◌<◌, ◌≤◌, cond, ltb, List, length, get_or, ℤ, pos, negsuc, ◌+ℤ◌, neg_ℤ, sym, ap, ◌∙◌, subst, arith}
+use Rattle.std.proofs.lemmas.Int.{ints}
 use Rattle.network.specs.Nets.{Net}
 use Rattle.theory.specs.Groups.{whole}
 use Rattle.theory.specs.Walks.{Way, rest, go, RoundTrip}
@@ -13,10 +13,6 @@ use Rattle.plans.specs.Residuals.{forward, backward, CentsStep, BothStep, both_g
 use Rattle.plans.specs.Prices.{BothRoundTrip, CentsRoundTrip}
 use Rattle.plans.proofs.Arcing.{arc, arcs_of, no_arc, one_more, one_less, arcs_length, arcs_at, convex_at, gathered_out, gathered_in, paid}
 use Rattle.plans.proofs.Best.{with_bikes}
-
-before : (x : ℕ) → 0 < x → (j : ℕ) × (x ≡ suc j)
-before zero h = absurd (omega arith)
-before (suc j) h = (j, refl)
 
 module _ (net : Net) (standing plan : List ℕ) where
   at : (k : ℕ) → k < length net.legs → get_or (arcs_of net standing) k no_arc ≡ arc (leg_at net k) (amount standing k)
@@ -34,10 +30,11 @@ module _ (net : Net) (standing plan : List ℕ) where
       )
   residual u v c (backward k j p q h e) =
       let a = at k j.there in
-      let b = before (amount plan k) h in (
+      let b : ℕ = amount plan k - 1 in
+      let s : amount plan k ≡ suc b = omega arith in (
         k,
-        down b.0 (among_arcs k j.there) (ap (λ z. z.to) a ∙ p) (ap (λ z. z.from) a ∙ q) b.1
-            (e ∙ ap (λ z. (neg_ℤ (pos (leg_at net k).charge), cond (ltb (amount standing k) z) (negsuc 0) (pos 1))) b.1 ∙ sym (one_less (leg_at net k).charge (amount standing k) b.0) ∙ ap (λ z. both_group.add (z.fee b.0) (both_group.neg (z.fee (suc b.0)))) (sym a)),
+        down b (among_arcs k j.there) (ap (λ z. z.to) a ∙ p) (ap (λ z. z.from) a ∙ q) s
+            (e ∙ ap (λ z. (neg_ℤ (pos (leg_at net k).charge), cond (ltb (amount standing k) z) (negsuc 0) (pos 1))) s ∙ sym (one_less (leg_at net k).charge (amount standing k) b) ∙ ap (λ z. both_group.add (z.fee b) (both_group.neg (z.fee (suc b)))) (sym a)),
       )
 
   -- the plan after one bike went around

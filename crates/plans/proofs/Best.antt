@@ -1,6 +1,6 @@
 -- A potential that no residual step undercuts: the plan is cheapest, then nearest, and no round trip totals below zero.
 use Rattle.std.proofs.Common.{ℕ, suc, ◌<◌, cond, ltb, List, [], ◌∷◌, length, get_or, ℤ, pos, negsuc, neg_ℤ, ◌≤ℤ◌, sym, refl, ap, ◌∙◌, arith}
-use borrow.Author.Differences.{ints}
+use Rattle.std.proofs.lemmas.Int.{ints}
 use Rattle.records.specs.Cleared.{cleared_leg}
 use Rattle.records.specs.declared.leg.Leg.{Leg}
 use Rattle.network.specs.Nets.{Net}

@@ -1,6 +1,6 @@
 -- Prices where no round trip totals below zero: they meet the reduced-cost condition, each station has one, and it is
 -- the least total of all walks.
-use Rattle.std.proofs.Common.{◌≡◌, ℕ, zero, suc, ◌<◌, ltb, List, [], length, ℤ, pos, ◌+ℤ◌, ◌≤ℤ◌, refl, arith}
+use Rattle.std.proofs.Common.{◌≡◌, ℕ, suc, ◌-◌, ◌<◌, ltb, List, [], length, ℤ, pos, ◌+ℤ◌, ◌≤ℤ◌, arith}
 use Rattle.std.proofs.lemmas.Bool.{ltb-true, lt-ltb}
 use Rattle.network.specs.Nets.{Net}
 use Rattle.theory.specs.Groups.{whole}
@@ -28,14 +28,10 @@ steps net plan = edges net plan (step_cents net) (length net.legs)
 step_is : (net : Net) (plan : List ℕ) (u v : ℕ) (c : ℤ) → Among (steps net plan) u v c → CentsStep net plan u v c
 step_is net plan u v c s = is_step net plan (step_cents net) (length net.legs) (omega arith) u v c s
 
-more_than : (v n : ℕ) → v < n → (m : ℕ) × (n ≡ suc m)
-more_than v zero h = absurd (omega arith)
-more_than v (suc m) h = (m, refl)
-
 pub exists : (net : Net) (plan : List ℕ) → (CentsRoundTrip net plan → ⊥) → (v : ℕ) → v < stations net → (t : ℤ) × Price net plan v t
 exists net plan none v h =
-    let m = more_than v (stations net) h in
+    let m : ℕ = stations net - 1 in
     let calm : Reached whole (Passes (λ u. ltb u (stations net))) (Among (steps net plan)) → ⊥ = λ r. none (Walking.trip_map whole (step_is net plan) r.trip) in
-    let below : (u w : ℕ) (c : ℤ) → Among (steps net plan) u w c → u < suc m.0 = λ u w c s. let b : u < stations net = from_below net plan (step_cents net) u w c (step_is net plan u w c s) in omega (arith, m.1) in
-    let r = Relaxing.exists whole (λ u. ltb u (stations net)) (steps net plan) calm m.0 below v (omega (arith, m.1)) [] (pos 0) (start (lt-ltb v (stations net) h)) in
+    let below : (u w : ℕ) (c : ℤ) → Among (steps net plan) u w c → u < suc m = λ u w c s. let b : u < stations net = from_below net plan (step_cents net) u w c (step_is net plan u w c s) in omega arith in
+    let r = Relaxing.exists whole (λ u. ltb u (stations net)) (steps net plan) calm m below v (omega arith) [] (pos 0) (start (lt-ltb v (stations net) h)) in
     (r.0, Walking.price_map whole (λ u. ltb-true u (stations net)) (λ u. lt-ltb u (stations net)) (step_is net plan) (listed net plan (step_cents net)) v r.0 r.2)

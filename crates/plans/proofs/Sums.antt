@@ -1,9 +1,9 @@
 -- Sums over the numbers below m, and over lists of stations.
 use Rattle.std.proofs.Common.{◌≡◌, ℕ, zero, suc, ◌+◌, ◌<◌, ◌≤◌, Bool, true, false, cond, ◌||◌, eqb, List, [], ◌∷◌, ℤ, pos, ◌+ℤ◌, ◌-ℤ◌, ◌≤ℤ◌, ◌<ℤ◌, sym, refl, ap, ◌∙◌, arith}
 use native.Mathlib.Decide.{ℕ_discrete}
-use borrow.Author.Differences.{ints}
+use Rattle.std.proofs.lemmas.Int.{ints}
 use Rattle.std.specs.List.{AllByRecursion}
-use Rattle.std.proofs.lemmas.Bool.{eq-eqb, ne_eqb}
+use Rattle.std.proofs.lemmas.Bool.{eq-eqb, ne_eqb, or_right}
 use Rattle.theory.specs.Arcs.{owed}
 use Rattle.theory.specs.Walks.{Absent, Distinct}
 use Rattle.plans.specs.Plans.{sum_below}
@@ -35,12 +35,12 @@ owed_before (suc n) u vs b h =
     ∙ ap (λ z. cond (among n vs) (b n) (pos 0) +ℤ z) (owed_before n u vs b (omega arith))
 
 at_new : (t s : Bool) (x y z : ℤ) → t ≡ true → s ≡ false → y ≡ z → cond (t || s) x (pos 0) +ℤ y ≡ x +ℤ (cond s x (pos 0) +ℤ z)
-at_new true true x y z p q e = absurd (let k : ◌≡◌ {A = ℕ} 0 1 = cc in omega arith)
+at_new true true x y z p q e = cc
 at_new true false x y z p q e = omega (arith, ints)
-at_new false s x y z p q e = absurd (let k : ◌≡◌ {A = ℕ} 0 1 = cc in omega arith)
+at_new false s x y z p q e = cc
 
 at_old : (t s : Bool) (x y z w : ℤ) → t ≡ false → y ≡ w +ℤ z → cond (t || s) x (pos 0) +ℤ y ≡ w +ℤ (cond s x (pos 0) +ℤ z)
-at_old true s x y z w p e = absurd (let k : ◌≡◌ {A = ℕ} 0 1 = cc in omega arith)
+at_old true s x y z w p e = cc
 at_old false true x y z w p e = omega (arith, ints)
 at_old false false x y z w p e = omega (arith, ints)
 
@@ -64,19 +64,15 @@ sum_over_parts (v ∷ vs) b c = omega (arith, ints, sum_over_parts vs b c)
 in_front : (v : ℕ) (vs : List ℕ) → among v (v ∷ vs) ≡ true
 in_front v vs = rw (eq-eqb v v refl)
 
-or_true : (t s : Bool) → s ≡ true → (t || s) ≡ true
-or_true true s h = refl
-or_true false s h = h
-
 sum_over_none : (vs : List ℕ) (b : ℕ → ℤ) → ((v : ℕ) → among v vs ≡ true → pos 0 ≤ℤ b v) → pos 0 ≤ℤ sum_over b vs
 sum_over_none [] b h = omega (arith, ints)
-sum_over_none (v ∷ vs) b h = omega (arith, ints, h v (in_front v vs), sum_over_none vs b (λ w k. h w (or_true (eqb w v) (among w vs) k)))
+sum_over_none (v ∷ vs) b h = omega (arith, ints, h v (in_front v vs), sum_over_none vs b (λ w k. h w (or_right (eqb w v) (among w vs) k)))
 
 -- none is below zero and one is above it
 pub sum_over_some : (vs : List ℕ) (b : ℕ → ℤ) → ((v : ℕ) → among v vs ≡ true → pos 0 ≤ℤ b v) → (w : ℕ) → among w vs ≡ true → pos 0 <ℤ b w → pos 0 <ℤ sum_over b vs
-sum_over_some [] b h w k p = absurd (let z : ◌≡◌ {A = ℕ} 0 1 = cc in omega arith)
+sum_over_some [] b h w k p = cc
 sum_over_some (v ∷ vs) b h w k p =
-    let rest : (u : ℕ) → among u vs ≡ true → pos 0 ≤ℤ b u = λ u i. h u (or_true (eqb u v) (among u vs) i) in
+    let rest : (u : ℕ) → among u vs ≡ true → pos 0 ≤ℤ b u = λ u i. h u (or_right (eqb u v) (among u vs) i) in
     elim (ℕ_discrete w v) [
       | yes e ↦ let q : pos 0 <ℤ b v = rw e at p in omega (arith, ints, sum_over_none vs b rest)
       | no d ↦ let i : among w vs ≡ true = ap (λ t. t || among w vs) (sym (ne_eqb w v d)) ∙ k in omega (arith, ints, h v (in_front v vs), sum_over_some vs b rest w i p)

@@ -5,57 +5,41 @@
 ghost use Rattle.plans.specs.Theorems.{BestHasNoRoundTrip, CertifiedHasNoRoundTrip, CertifiedIsBest, CutExcludesPlans, PricesAreUnique, PricesExist, PricesMeetReducedCost, UncrossedIsCut};
 
 // A plan that obeys is cheapest, then nearest, if no residual step undercuts some potential.
-pub fn certified_plan_is_cheapest_then_nearest() -> u8
+pub fn certified_plan_is_cheapest_then_nearest()
     ensures { CertifiedIsBest }
-{
-    0
-}
+{}
 
 // Such a potential also excludes round trips that total below zero cents.
-pub fn certified_plan_has_no_round_trip_below_zero() -> u8
+pub fn certified_plan_has_no_round_trip_below_zero()
     ensures { CertifiedHasNoRoundTrip }
-{
-    0
-}
+{}
 
 // A plan that is cheapest, then nearest admits no round trip below zero.
-pub fn best_plan_has_no_round_trip_below_zero() -> u8
+pub fn best_plan_has_no_round_trip_below_zero()
     ensures { BestHasNoRoundTrip }
-{
-    0
-}
+{}
 
 // Where there is a cut, no plan obeys.
-pub fn cut_excludes_plans() -> u8
+pub fn cut_excludes_plans()
     ensures { CutExcludesPlans }
-{
-    0
-}
+{}
 
 // Stations that no residual step leaves are a cut if bikes are left over at one of them and none of them lacks any.
-pub fn uncrossed_stations_are_a_cut() -> u8
+pub fn uncrossed_stations_are_a_cut()
     ensures { UncrossedIsCut }
-{
-    0
-}
+{}
 
 // Where no round trip totals below zero, the price at the end of a step is at most that at its start and its cents.
-pub fn prices_meet_reduced_cost() -> u8
+pub fn prices_meet_reduced_cost()
     ensures { PricesMeetReducedCost }
-{
-    0
-}
+{}
 
 // A station has one price at most.
-pub fn prices_are_unique() -> u8
+pub fn prices_are_unique()
     ensures { PricesAreUnique }
-{
-    0
-}
+{}
 
 // Where no round trip totals below zero, every station has a price, and no walk that ends there totals less.
-pub fn prices_exist() -> u8
+pub fn prices_exist()
     ensures { PricesExist }
-{
-    0
-}
+{}

@@ -1,7 +1,7 @@
 -- A set of stations that must send out more than its legs outwards can carry, and a set that no residual step leaves.
 -- Both are the exchange of sums at the potential that is 1 in the set and 0 outside it.
 use Rattle.std.proofs.Common.{◌≡◌, ℕ, zero, suc, ◌<◌, ◌≤◌, Bool, true, false, cond, not, ◌&&◌, List, [], ◌∷◌, ℤ, pos, ◌+ℤ◌, ◌-ℤ◌, ◌≤ℤ◌, ◌<ℤ◌, refl, arith}
-use borrow.Author.Differences.{ints}
+use Rattle.std.proofs.lemmas.Int.{ints}
 use Rattle.std.specs.List.{AllByRecursion}
 use Rattle.theory.specs.Groups.{whole}
 use Rattle.theory.specs.Arcs.{Arc, gather, Fits, Feasible, times, sum_to, along, outward, owed, AllFull}

@@ -1,7 +1,7 @@
 -- One convex leg, and weak duality: a plan that no residual step undercuts is cheapest.
 use Rattle.std.proofs.Common.{◌≡◌, ℕ, zero, suc, ◌+◌, ◌-◌, ◌<◌, ◌≤◌, List, [], ◌∷◌, ℤ, sym, refl, ap, ◌∙◌, add-zero, add-suc, suc-add, arith}
 use native.Mathlib.Decide.{dec_lt}
-use borrow.Author.Differences.{ints}
+use Rattle.std.proofs.lemmas.Int.{ints}
 use Rattle.std.specs.List.{AllByRecursion}
 use Rattle.theory.specs.Groups.{OrderedGroup, cancel}
 use Rattle.theory.specs.Arcs.{Arc, Fits, Feasible, times, sum_to, along, fees, Convex, Tight, ReducedCosts, Uncut}

@@ -1,4 +1,4 @@
-use mathlib.Core.Path.{refl}
+use Rattle.std.proofs.Common.{refl}
 use Rattle.examples.proofs.Ways.{cheap_way, near_way, other_way, both_ways, no_way}
 use Rattle.examples.proofs.Priced.{price_at_start, price_on_the_way, price_at_end}
 use Rattle.examples.proofs.Severed.{cuts}
