@@ -5,7 +5,7 @@ ghost use Rattle.theory.specs.Groups.{paired};
 use crate::cost::Cost;
 
 // The second part decides only between equal first parts.
-#[derive(Clone, Copy)]
+#[derive(Clone, Copy, PartialEq, Eq, Debug)]
 pub struct Pair<A, B> {
     pub first: A,
     pub second: B,
@@ -41,13 +41,9 @@ impl<A: Cost, B: Cost> Cost for Pair<A, B> {
         }
     }
 
+    // Not by a derived order: that would say nothing of the parts' worths.
     fn at_most(self, other: Pair<A, B>) -> bool {
-        if !self.first.at_most(other.first) {
-            return false;
-        }
-        if !other.first.at_most(self.first) {
-            return true;
-        }
-        self.second.at_most(other.second)
+        self.first.below(other.first)
+            || (self.first.at_most(other.first) && self.second.at_most(other.second))
     }
 }

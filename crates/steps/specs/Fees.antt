@@ -7,9 +7,7 @@
 --   CentsAreStepCents   fees in cents are the cents of steps
 --   BothAreStepBoth     fees in both are the cents and the bikes of difference of steps
 use Rattle.std.specs.Prelude.{◌≡◌, ℕ, cond, List, ℤ, pos, negsuc, neg_ℤ, nat_le, nat_lt}
-use Rattle.costs.specs.declared.bikes.Bikes.{Bikes}
-use Rattle.costs.specs.declared.cents.Cents.{Cents}
-use Rattle.costs.specs.declared.pair.Pair.{Pair}
+use Rattle.costs.specs.Kinds.{Cents, Bikes, CentsThenBikes, count}
 use Rattle.records.specs.declared.leg.Leg.{Leg}
 use Rattle.network.specs.Nets.{Net}
 use Rattle.plans.specs.Plans.{leg_at, amount}
@@ -17,15 +15,15 @@ use Rattle.plans.specs.Residuals.{Direction, forth, back, step_cents, step_both}
 
 -- the charge forth, the negated charge back
 abbrev pub fee_cents : Direction → Leg → Cents
-fee_cents forth l = record { 0 = pos l.charge }
-fee_cents back l = record { 0 = neg_ℤ (pos l.charge) }
+fee_cents forth l = count (pos l.charge)
+fee_cents back l = count (neg_ℤ (pos l.charge))
 
 -- from the standing amount and the amount: -1 towards the standing amount, 1 away from it
 abbrev pub fee_bikes : Direction → ℕ → ℕ → Bikes
-fee_bikes forth s x = record { 0 = cond (nat_le s x) (pos 1) (negsuc 0) }
-fee_bikes back s x = record { 0 = cond (nat_lt s x) (negsuc 0) (pos 1) }
+fee_bikes forth s x = count (cond (nat_le s x) (pos 1) (negsuc 0))
+fee_bikes back s x = count (cond (nat_lt s x) (negsuc 0) (pos 1))
 
-abbrev pub fee_both : List ℕ → Direction → ℕ → Leg → ℕ → Pair Cents Bikes
+abbrev pub fee_both : List ℕ → Direction → ℕ → Leg → ℕ → CentsThenBikes
 fee_both standing d k l x = record { first = fee_cents d l; second = fee_bikes d (amount standing k) x }
 
 -- each leg by its number, at the amount that the plan gives it

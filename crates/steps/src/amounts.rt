@@ -8,11 +8,7 @@ use records::{Leg, Mark};
 pub fn amount_at(amounts: &[u16], number: usize) -> u16
     ensures { result ≡ amount amounts.now number }
 {
-    if number < amounts.len() {
-        amounts[number]
-    } else {
-        0
-    }
+    amounts.get(number).copied().unwrap_or(0)
 }
 
 // The capacity of an open leg, 0 of a shut one.

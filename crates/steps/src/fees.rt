@@ -5,7 +5,7 @@ ghost use Rattle.plans.specs.Residuals.{Direction, forth, back};
 ghost use Rattle.steps.specs.Fees.{BothAreStepBoth, CentsAreStepCents, fee_both, fee_cents};
 
 use crate::amounts::amount_at;
-use costs::{Bikes, Cents, Cost, Pair};
+use costs::{Bikes, Cents, CentsThenBikes, Cost, Pair};
 use records::Leg;
 
 // What a step over a leg costs, by its direction, the leg's number, the leg and the amount it carries.
@@ -30,11 +30,11 @@ impl Fees<Cents> for InCents {
     ghost cost = { λ _ d _ l _. fee_cents d l };
 
     fn forth(&self, _number: usize, leg: Leg, _amount: u16) -> Cents {
-        Cents(i64::from(leg.charge))
+        Cents::new(i64::from(leg.charge))
     }
 
     fn back(&self, _number: usize, leg: Leg, _amount: u16) -> Cents {
-        Cents(-i64::from(leg.charge))
+        Cents::new(-i64::from(leg.charge))
     }
 }
 
@@ -44,44 +44,40 @@ pub struct InBoth<'a> {
     pub standing: &'a [u16],
 }
 
-impl<'a> Fees<Pair<Cents, Bikes>> for InBoth<'a> {
+impl<'a> Fees<CentsThenBikes> for InBoth<'a> {
     ghost cost = { λ s d k l x. fee_both s.standing.now d k l x };
 
-    fn forth(&self, number: usize, leg: Leg, amount: u16) -> Pair<Cents, Bikes> {
+    fn forth(&self, number: usize, leg: Leg, amount: u16) -> CentsThenBikes {
         let bikes = if amount_at(self.standing, number) <= amount {
             1
         } else {
             -1
         };
         Pair {
-            first: Cents(i64::from(leg.charge)),
-            second: Bikes(bikes),
+            first: InCents.forth(number, leg, amount),
+            second: Bikes::new(bikes),
         }
     }
 
-    fn back(&self, number: usize, leg: Leg, amount: u16) -> Pair<Cents, Bikes> {
+    fn back(&self, number: usize, leg: Leg, amount: u16) -> CentsThenBikes {
         let bikes = if amount_at(self.standing, number) < amount {
             -1
         } else {
             1
         };
         Pair {
-            first: Cents(-i64::from(leg.charge)),
-            second: Bikes(bikes),
+            first: InCents.back(number, leg, amount),
+            second: Bikes::new(bikes),
         }
     }
 }
 
 // Fees in cents are the cents of residual steps.
-pub fn in_cents_are_step_cents() -> u8
+pub fn in_cents_are_step_cents()
     ensures { CentsAreStepCents }
-{
-    0
-}
+{}
 
 // Fees in both are the cents and the bikes of difference of residual steps.
-pub fn in_both_are_step_both() -> u8
+pub fn in_both_are_step_both()
     ensures { BothAreStepBoth }
-{
-    0
-}
+{}

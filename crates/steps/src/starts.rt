@@ -30,6 +30,6 @@ impl<'a> Starts for Marked<'a> {
     ghost starts = { λ s v. slice_index_or s.0.now v false };
 
     fn is_start(&self, station: usize) -> bool {
-        station < self.0.len() && self.0[station]
+        self.0.get(station).is_some_and(|mark| *mark)
     }
 }

@@ -1,45 +1,55 @@
-// Bikes of difference as a kind of cost.
+// Whole numbers of one kind as a kind of cost.
 ghost use Rattle.std.specs.Prelude.{◌≡◌, ℕ, ◌+◌, ◌^◌, ◌≤◌, ℤ, ◌+ℤ◌, neg_ℤ, unsigned_abs};
 ghost use Rattle.std.specs.Int.{saturate_to_bits};
 ghost use Rattle.theory.specs.Groups.{whole};
 
 use crate::cost::Cost;
+use std::marker::PhantomData;
 
-// How far a plan is from another, or by how much a step changes that.
+// How many of the kind `K`, below zero, too. Numbers of different kinds are of different types.
 #[derive(Clone, Copy, PartialEq, Eq, Debug)]
-pub struct Bikes(pub i64);
+pub struct Count<K>(pub i64, PhantomData<K>);
+
+impl<K> Count<K> {
+    // That many.
+    pub const fn new(number: i64) -> Count<K>
+        ensures { result.0 ≡ number }
+    {
+        Count(number, PhantomData)
+    }
+}
 
 // The worth is the integer itself.
-impl Cost for Bikes {
+impl<K: Copy> Cost for Count<K> {
     ghost Worth = { ℤ };
 
     ghost group = { whole };
 
-    ghost worth = { λ b. b.0 };
+    ghost worth = { λ c. c.0 };
 
-    ghost size = { λ b. unsigned_abs b.0 };
+    ghost size = { λ c. unsigned_abs c.0 };
 
-    fn zero() -> Bikes {
-        Bikes(0)
+    fn zero() -> Count<K> {
+        Count::new(0)
     }
 
     // Beyond the range of the number it stops at the nearer limit.
-    fn sum(self, other: Bikes) -> Bikes
+    fn sum(self, other: Count<K>) -> Count<K>
         ensures exact { unsigned_abs self.0 + unsigned_abs other.0 ≤ 2 ^ 40 → (result.0 ≡ self.0 +ℤ other.0) × (unsigned_abs result.0 ≤ unsigned_abs self.0 + unsigned_abs other.0) }
         ensures limited { result.0 ≡ saturate_to_bits 63 (self.0 +ℤ other.0) }
     {
-        Bikes(self.0.saturating_add(other.0))
+        Count::new(self.0.saturating_add(other.0))
     }
 
     // The same of a negative.
-    fn negative(self) -> Bikes
+    fn negative(self) -> Count<K>
         ensures exact { unsigned_abs self.0 ≤ 2 ^ 40 → (result.0 ≡ neg_ℤ self.0) × (unsigned_abs result.0 ≡ unsigned_abs self.0) }
         ensures limited { result.0 ≡ saturate_to_bits 63 (neg_ℤ self.0) }
     {
-        Bikes(self.0.saturating_neg())
+        Count::new(self.0.saturating_neg())
     }
 
-    fn at_most(self, other: Bikes) -> bool {
+    fn at_most(self, other: Count<K>) -> bool {
         self.0 <= other.0
     }
 }
