@@ -1,2 +1,0 @@
-pub mod Filling
-pub mod Settling

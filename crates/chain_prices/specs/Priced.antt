@@ -1,48 +1,15 @@
--- What the prices of stations are, as they are written.
---   price_in    the total in a label
---   price_at    the price of a station among those written
---   Writes      prices after the totals of labels were written
---   Prices      every station has its price, and no step undercuts them
+-- What the call for prices by chains answers.
 --   Priced      what the call answers and leaves
-use Rattle.std.specs.Prelude.{◌≡◌, ℕ, ◌<◌, ◌≤◌, Bool, true, false, ◌⊎◌, List, length, drop, ℤ, pos, ◌+ℤ◌, ◌≤ℤ◌, Some, None, Ok, Err, Option, Result, slice_index_or}
+use Rattle.std.specs.Prelude.{◌≡◌, ℕ, ◌<◌, ◌≤◌, Bool, ◌⊎◌, List, length, drop, ℤ, Ok, Err, Result}
 use Rattle.records.specs.declared.refusal.Refusal.{Refusal}
 use Rattle.records.specs.declared.refusal.Refusal.TheVariants.{SliceTooShort}
 use Rattle.network.specs.Nets.{Net}
 use Rattle.plans.specs.Plans.{stations}
-use Rattle.plans.specs.Residuals.{CentsStep}
-use Rattle.plans.specs.Prices.{Price, CentsRoundTrip}
-use Rattle.costs.specs.declared.cents.Cents.{Cents}
-use Rattle.chain_search.specs.Labels.{label_at}
+use Rattle.costs.specs.Kinds.{Cents}
+use Rattle.search.specs.declared.label.Label.{Label}
+use Rattle.prices.specs.Priced.{Written}
 use Rattle.chain_search.specs.Searches.{Enough, TooShort}
 use Rattle.chain_search.specs.declared.chains.Links.{Links}
-use Rattle.chain_search.specs.declared.label.Arrival.{Arrival}
-use Rattle.chain_search.specs.declared.label.Label.{Label}
-
--- of an arrival, 0 where there is none
-abbrev pub total_in : Option (Arrival Cents) → ℤ
-total_in None = pos 0
-total_in (Some x) = x.total.0
-
-abbrev pub price_in : Label Cents → ℤ
-price_in l = total_in l.arrival
-
-abbrev pub price_at : List ℤ → ℕ → ℤ
-price_at ps v = slice_index_or ps v (pos 0)
-
--- those beyond n stay
-pub record Writes (n : ℕ) (ls : List (Label Cents)) (before after : List ℤ) : Type 0 where
-  pub beyond : drop n after ≡ drop n before
-  pub each : (v : ℕ) → v < n → price_at after v ≡ price_in (label_at ls v)
-
--- price(end) ≤ price(start) + cents for every step
-pub record Prices (net : Net) (plan : List ℕ) (ps : List ℤ) : Type 0 where
-  pub price : (v : ℕ) → v < stations net → Price net plan v (price_at ps v)
-  pub reduced : (u v : ℕ) (c : ℤ) → CentsStep net plan u v c → price_at ps v ≤ℤ (price_at ps u +ℤ c)
-
--- by whether prices were written: they are where no round trip totals below zero, and else they stay
-abbrev pub Written : Net → List ℕ → Bool → List ℤ → List ℤ → Type 0
-Written net plan true before after = (CentsRoundTrip net plan → ⊥) × Prices net plan after × (drop (stations net) after ≡ drop (stations net) before)
-Written net plan false before after = CentsRoundTrip net plan × (after ≡ before)
 
 -- refused exactly when a slice to search in is too short or there are fewer prices than stations, with nothing altered;
 -- labels beyond the stations stay, and what the heads and the nexts hold in the end is left open

@@ -1,5 +1,3 @@
 pub mod Chains
-pub mod Labels
 pub mod Searches
-pub mod Sweeps
-pub mod Rounds
+pub mod Walks

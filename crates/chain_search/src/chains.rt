@@ -6,48 +6,25 @@ ghost use Rattle.chain_search.specs.Chains.{Chained, Threaded, link, links_at, p
 
 use network::Network;
 use records::Leg;
-
-// Which way steps go over legs: along them, from start to end, or against them.
-#[derive(Clone, Copy)]
-pub(crate) enum Way {
-    Along,
-    Against,
-}
+use search::{Way, joined_leg};
 
 // Where chains go on: of a station, the last leg that starts there and the last that ends there; of
-// a leg, the one before it with the same start and the one before it with the same end. Each is the
-// leg's number and 1, or 0 where there is none.
-#[derive(Clone, Copy)]
+// a leg, the one before it with the same start and the one before it with the same end.
+#[derive(Clone, Copy, PartialEq, Eq, Default, Debug)]
 pub struct Links {
-    pub forth: u16,
-    pub back: u16,
+    pub forth: Option<u16>,
+    pub back: Option<u16>,
 }
 
-// The chains: by station the legs that they begin with, by leg those that follow.
-#[derive(Clone, Copy)]
-pub(crate) struct Chains<'a> {
-    pub(crate) heads: &'a [Links],
-    pub(crate) nexts: &'a [Links],
-}
-
-// The link of one way at a station or a leg.
-pub(crate) fn link_at(table: &[Links], number: usize, way: Way) -> u16
-    requires { number < length table.now }
-    ensures { result ≡ link way (links_at table.now number) }
-{
-    match way {
-        Way::Along => table[number].forth,
-        Way::Against => table[number].back,
-    }
-}
-
-// Empties the chains of so many stations.
-fn clear(stations: usize, heads: &mut [Links])
-    requires { stations ≤ length heads.old }
-    ensures { (v : ℕ) → v < stations → links_at heads.new v ≡ unlinked }
-{
-    for station in 0..stations {
-        heads[station] = Links { forth: 0, back: 0 };
+impl Links {
+    // The leg that steps of one way lead on to.
+    pub(crate) fn by(self, way: Way) -> Option<u16>
+        ensures { result ≡ link way self }
+    {
+        match way {
+            Way::Along => self.forth,
+            Way::Against => self.back,
+        }
     }
 }
 
@@ -57,9 +34,9 @@ fn put_leg(number: usize, leg: Leg, heads: &mut [Links], nexts: &mut [Links])
     ensures next { nexts.new ≡ put_next number leg heads.old nexts.old }
     ensures heads { heads.new ≡ put_back number leg (put_forth number leg heads.old) }
 {
-    let start = leg.start as usize;
-    let end = leg.end as usize;
-    let link = number as u16 + 1;
+    let start = usize::from(leg.start);
+    let end = usize::from(leg.end);
+    let link = Some(number as u16);
     nexts[number] = Links {
         forth: heads[start].forth,
         back: heads[end].back,
@@ -73,14 +50,9 @@ fn link_leg<N: Network>(net: &N, number: usize, heads: &mut [Links], nexts: &mut
     requires { (number < 3000) × ((number < length nexts.old) × (count_of (N.Network.meaning net.now) ≤ length heads.old)) }
     ensures { Chained (N.Network.meaning net.now) number heads.old nexts.old → Chained (N.Network.meaning net.now) (suc number) heads.new nexts.new }
 {
-    let Some(leg) = net.leg(number) else {
-        return;
-    };
-    let stations = net.stations();
-    if leg.start as usize >= stations || leg.end as usize >= stations {
-        return;
+    if let Some(leg) = joined_leg(net, number) {
+        put_leg(number, leg, heads, nexts);
     }
-    put_leg(number, leg, heads, nexts);
 }
 
 // Builds the chains of all legs.
@@ -88,7 +60,7 @@ pub(crate) fn link_legs<N: Network>(net: &N, heads: &mut [Links], nexts: &mut [L
     requires { (count_of (N.Network.meaning net.now) ≤ length heads.old) × (length (N.Network.meaning net.now).legs ≤ length nexts.old) }
     ensures { Threaded (N.Network.meaning net.now) heads.new nexts.new }
 {
-    clear(net.stations(), heads);
+    heads.fill(Links::default());
     for number in 0..net.legs() {
         link_leg(net, number, heads, nexts);
     }

@@ -1,22 +1,20 @@
-// The search for cheapest walks on the residual network of a plan.
+// The search for cheapest walks on the residual network of a plan, in rounds that go over chains of
+// the legs at each station.
 #![tactic(auto)]
 
 ghost use Rattle.chain_search.specs.Searches.{Searched};
 
 pub mod chains;
-pub mod label;
-pub mod outcome;
-mod relax;
-mod rounds;
+mod walks;
 
-use chains::Chains;
 pub use chains::Links;
 use costs::Cost;
-pub use label::{Arrival, Label, Last};
 use network::Network;
-pub use outcome::Outcome;
 use records::Refusal;
+pub use search::{Arrival, Label, Last, Outcome};
+use search::{Residual, search_by};
 use steps::{Fees, Starts};
+use walks::ByChains;
 
 // The cheapest walk to every station, from the starting stations at zero, over the residual steps
 // of a plan at their fees. Amounts that the plan lacks count as 0. It writes a label for each
@@ -38,6 +36,11 @@ pub fn search<N: Network, C: Cost, F: Fees<C>, S: Starts>(
         return Err(Refusal::SliceTooShort);
     }
     chains::link_legs(net, heads, nexts);
-    rounds::begin(starts, stations, labels);
-    Ok(rounds::rounds(net, plan, fees, Chains { heads, nexts }, labels))
+    let residual = Residual { net, plan, fees };
+    let sweep = ByChains {
+        residual,
+        heads,
+        nexts,
+    };
+    search_by(&sweep, starts, labels)
 }

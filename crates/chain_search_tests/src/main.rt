@@ -1,25 +1,103 @@
-// Runs the search and the prices on small cases, and prints what they answer. The lines are
-// compared with the file `stdout`.
+// Runs the search by chains and the prices by it on small cases, and prints what they answer. The
+// lines are compared with the file `stdout`.
 #![tactic(auto)]
 
-mod cases;
-mod print;
-mod worked;
-
+use chain_search::Links;
+use costs::{Cents, Cost};
+use network::Network;
+use records::{Refusal, Station};
+use search::{Label, Outcome};
+use search_cases::{Searching, cases, print, worked};
 use std::io;
+use steps::{Everywhere, Fees, InCents, Starts};
+use table::Table;
+
+// Links that lead astray: a search does not read what it was lent.
+const STRAY: Links = Links {
+    forth: Some(9),
+    back: Some(65535),
+};
+
+// The search by chains, over networks of at most 5 stations and 5 legs: with as many links as it needs, and prices with more.
+struct OverChains;
+
+impl Searching for OverChains {
+    fn search<N: Network, C: Cost, F: Fees<C>, S: Starts>(
+        &self,
+        net: &N,
+        plan: &[u16],
+        fees: &F,
+        starts: &S,
+        labels: &mut [Label<C>],
+    ) -> Result<Outcome, Refusal> {
+        let mut heads = [STRAY; 5];
+        let mut nexts = [STRAY; 5];
+        let heads = &mut heads[..net.stations().min(5)];
+        let nexts = &mut nexts[..net.legs().min(5)];
+        chain_search::search(net, plan, fees, starts, labels, heads, nexts)
+    }
+
+    fn prices<N: Network>(
+        &self,
+        net: &N,
+        plan: &[u16],
+        labels: &mut [Label<Cents>],
+        prices: &mut [i64],
+    ) -> Result<bool, Refusal> {
+        let mut heads = [STRAY; 5];
+        let mut nexts = [STRAY; 5];
+        chain_prices::prices(net, plan, labels, &mut heads, &mut nexts, prices)
+    }
+}
+
+// Links, each as the one forth and the one back.
+fn print_links(rt: &HostRuntime, links: &[Links]) -> io::Result<()> {
+    for link in links {
+        let forth = link.forth.unwrap_or(0);
+        let back = link.back.unwrap_or(0);
+        println!(rt; "  {forth} {back}")?;
+    }
+    Ok(())
+}
+
+// Links that are too few are refused, with nothing altered.
+fn too_few_links(rt: &HostRuntime) -> io::Result<()> {
+    let mut legs = worked::legs();
+    let mut stations = [Station { balance: 0 }; 3];
+    let table = Table {
+        legs: &mut legs,
+        stations: &mut stations,
+    };
+    let mut labels = [Label::<Cents>::default(); 3];
+    let mut few = [STRAY; 2];
+    let mut enough = [STRAY; 3];
+    let answer = chain_search::search(
+        &table,
+        &[],
+        &InCents,
+        &Everywhere,
+        &mut labels,
+        &mut few,
+        &mut enough,
+    );
+    print::outcome(rt, "two heads", answer)?;
+    let answer = chain_search::search(
+        &table,
+        &[],
+        &InCents,
+        &Everywhere,
+        &mut labels,
+        &mut enough,
+        &mut few,
+    );
+    print::outcome(rt, "two nexts", answer)?;
+    print::labels(rt, &labels)?;
+    print_links(rt, &few)?;
+    print_links(rt, &enough)
+}
 
 fn main(rt: HostRuntime) -> io::Result<()> {
-    worked::prices_of_plan(&rt)?;
-    worked::prices_of_empty_plan(&rt)?;
-    worked::from_first_station(&rt)?;
-    worked::in_both(&rt)?;
-    worked::too_short(&rt)?;
-    cases::ties(&rt)?;
-    cases::unreachable_stations(&rt)?;
-    cases::zero_charges(&rt)?;
-    cases::parallel_legs(&rt)?;
-    cases::round_trip(&rt)?;
-    cases::round_trip_out_of_reach(&rt)?;
-    cases::nonsense(&rt)?;
-    cases::highest_charges(&rt)
+    worked::all(&rt, &OverChains)?;
+    too_few_links(&rt)?;
+    cases::all(&rt, &OverChains)
 }

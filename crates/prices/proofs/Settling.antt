@@ -8,21 +8,22 @@ use Rattle.plans.specs.Plans.{stations}
 use Rattle.plans.specs.Residuals.{Step, CentsStep, step_cents}
 use Rattle.plans.specs.Prices.{Station, Price, CentsRoundTrip}
 use Rattle.plans.proofs.Pricing
-use Rattle.costs.specs.declared.cents.Cents.{Cents}
-use Rattle.search.specs.Fees.{paid, cents_worth}
+use Rattle.costs.specs.Kinds.{Cents}
+use Rattle.steps.specs.Fees.{paid, cents_worth}
+use Rattle.steps.proofs.Paying.{cents_same}
 use Rattle.search.specs.Labels.{label_at}
-use Rattle.search.specs.Searches.{Over, From, Settles}
+use Rattle.search.specs.Searches.{Over, From, Settles, Answer}
 use Rattle.search.specs.declared.label.Label.{Label}
+use Rattle.search.specs.declared.outcome.Outcome.TheVariants.{Settled}
 use Rattle.search.proofs.Optional.{option_cases}
-use Rattle.search.proofs.Paying.{cents_same}
 use Rattle.search.proofs.Stepping.{ends}
-use Rattle.prices.specs.Priced.{price_at, price_in, Writes, Prices}
+use Rattle.prices.specs.Priced.{cents_of, price_at, price_in, Writes, Prices, Written}
 
 -- where walks start at the end of every step, every round trip below zero is reached
-module _ {A : Type 0} (G : OrderedGroup A) (F : ℕ → Type 0) (S : ℕ → ℕ → A → Type 0) (ends-start : (u v : ℕ) (c : A) → S u v c → F v) where
+module _ {A : Type 0} (G : OrderedGroup A) (F : ℕ → Type 0) (S : ℕ → ℕ → A → Type 0) (starts : (u v : ℕ) (c : A) → S u v c → F v) where
   at_end : {o v : ℕ} {us : List ℕ} {z : A} → Way G S o v us z → (G.le G.zero z → ⊥) → F v
   at_end rest n = absurd (n (G.le_refl G.zero))
-  at_end (go {u = u} {v = v} {c = c} w p) n = ends-start u v c p
+  at_end (go {u = u} {v = v} {c = c} w p) n = starts u v c p
 
   trip_reached : RoundTrip G S → Reached G F S
   trip_reached t = record { trip = t; before = []; total = G.zero; walk = start (at_end t.way t.below) }
@@ -76,3 +77,7 @@ module _ (net : Net) (plan : List ℕ) where
                 let e = ends net plan (step_cents net) u v c s in
                 Pricing.reduced net plan (no_trip_of z.no_trip) u v c (price_at after u) (price_at after v) s (written_price u e.0) (written_price v e.1);
           }
+
+-- what an outcome stands for, and whether prices are written
+pub written : (net : Net) (plan : List ℕ) (ls : List (Label Cents)) (before after : List ℤ) → Answer whole cents_of net plan cents_worth (λ _. true) Settled ls → Writes (stations net) ls before after → Written net plan true before after
+written net plan ls before after z w = (no_trip_of net plan z.no_trip, prices_of net plan ls z before after w, w.beyond)

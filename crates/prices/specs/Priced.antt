@@ -1,4 +1,5 @@
 -- What the prices of stations are, as they are written.
+--   cents_of    the worth of cents
 --   price_in    the total in a label
 --   price_at    the price of a station among those written
 --   Writes      prices after the totals of labels were written
@@ -11,10 +12,13 @@ use Rattle.network.specs.Nets.{Net}
 use Rattle.plans.specs.Plans.{stations}
 use Rattle.plans.specs.Residuals.{CentsStep}
 use Rattle.plans.specs.Prices.{Price, CentsRoundTrip}
-use Rattle.costs.specs.declared.cents.Cents.{Cents}
+use Rattle.costs.specs.Kinds.{Cents}
 use Rattle.search.specs.Labels.{label_at}
 use Rattle.search.specs.declared.label.Arrival.{Arrival}
 use Rattle.search.specs.declared.label.Label.{Label}
+
+abbrev pub cents_of : Cents → ℤ
+cents_of c = c.0
 
 -- of an arrival, 0 where there is none
 abbrev pub total_in : Option (Arrival Cents) → ℤ

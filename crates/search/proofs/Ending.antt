@@ -1,7 +1,7 @@
 -- The first labels, and what labels say when rounds end.
 use Rattle.std.proofs.Common.{◌≡◌, ℕ, suc, ◌<◌, ◌≤◌, Bool, true, false, List, [], ◌∷◌, length, Some, None, Option, sym, refl, ap, ◌∙◌, subst, inl, inr, arith}
-use Rattle.std.proofs.lemmas.Bool.{both_ways}
 use Rattle.std.proofs.lemmas.Option.{none-some, same_Some}
+use Rattle.std.proofs.lemmas.Bool.{both_ways}
 use Rattle.theory.specs.Groups.{OrderedGroup}
 use Rattle.theory.specs.Walks.{Walk, start, step, Least, Reached, Label, Rounds, AtMost}
 use Rattle.theory.specs.Walks as walks
@@ -18,7 +18,7 @@ use Rattle.search.specs.declared.label.Label as labels
 module _ {C A : Type 0} (G : OrderedGroup A) (worth : C → A) (size : C → ℕ) (n : ℕ) (F : ℕ → Type 0) (S : ℕ → ℕ → A → Type 0) (T : Last → ℕ → ℕ → A → Type 0)
     (ends : (u v : ℕ) (c : A) → S u v c → (u < n) × (v < n)) (into : (l : Last) (u v : ℕ) (c : A) → T l u v c → S u v c) where
   -- ---- the end: no label changed
-  module _ (k : ℕ) (ls : List (labels.Label C)) (a : After G worth size n F S T k ls) (still : Still n ls) where
+  module _ (k : ℕ) (ls : List (labels.Label C)) (a : After G worth size n F S T k ls) (few : 1 ≤ n → k ≤ n) (still : Still n ls) where
     value : Option A → A
     value None = G.zero
     value (Some t) = t
@@ -77,6 +77,7 @@ module _ {C A : Type 0} (G : OrderedGroup A) (worth : C → A) (size : C → ℕ
     settles =
         record {
           since = a.since;
+          early = λ v h. omega (arith, a.early v, few (omega arith));
           least = least;
           comes = λ v x h e. comes v x h e (a.came v x h e);
           unreached = λ v h e. unreached v e;
@@ -106,7 +107,7 @@ module _ {C A : Type 0} (G : OrderedGroup A) (worth : C → A) (size : C → ℕ
       l.at (omega (arith, l.below)) l.before l.total l.walk (λ q. l.no_shorter q.before q.total q.walk (omega (arith, q.short)) q.low)
 
   -- ---- the first labels
-  module _ (f : ℕ → Bool) (starts-at : (v : ℕ) → v < n → f v ≡ true → F v) (starts_from : (v : ℕ) → F v → (v < n) × (f v ≡ true)) (old ls : List (labels.Label C)) (b : Begins G worth size n f old ls) where
+  module _ (f : ℕ → Bool) (starts_at : (v : ℕ) → v < n → f v ≡ true → F v) (starts_from : (v : ℕ) → F v → (v < n) × (f v ≡ true)) (old ls : List (labels.Label C)) (b : Begins G worth size n f old ls) where
     -- by whether the station is a start
     first : (t : Bool) (v : ℕ) (x : Arrival C) → (begun t b.z).arrival ≡ Some x → (t ≡ true) × (x.last ≡ Start) × (worth x.total ≡ G.zero) × (size x.total ≡ 0)
     first false v x e = absurd (none-some x e)
@@ -138,8 +139,8 @@ module _ {C A : Type 0} (G : OrderedGroup A) (worth : C → A) (size : C → ℕ
           early = λ v. omega arith;
           calm = λ v h. ap (λ l. l.better) (b.each v h) ∙ calm (f v);
           small = λ v x h e. omega (arith, (first_at v x h e).3);
-          attained = λ v x h e. let q = first_at v x h e in record { before = []; walk = rw q.2 (start (starts-at v h q.0)); short = omega arith };
-          came = λ v x h e. let q = first_at v x h e in inl (q.1, starts-at v h q.0, q.2);
+          attained = λ v x h e. let q = first_at v x h e in record { before = []; walk = rw q.2 (start (starts_at v h q.0)); short = omega arith };
+          came = λ v x h e. let q = first_at v x h e in inl (q.1, starts_at v h q.0, q.2);
           reach = λ v us t w l. reach w l;
           relaxed = λ u v c y s p q. let h = (ends u v c s).0 in absurd (absent (f u) y (sym (ap (λ l. l.changed) (b.each u h)) ∙ p) (sym (ap (λ l. l.arrival) (b.each u h)) ∙ q));
         }

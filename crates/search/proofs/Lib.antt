@@ -4,4 +4,3 @@ pub mod Rounding
 pub mod Ending
 pub mod Writing
 pub mod Stepping
-pub mod Paying

@@ -18,6 +18,9 @@ fresh_some false o t e = absurd (none-some t e)
 fresh_some true None t e = absurd (none-some t e)
 fresh_some true (Some y) t e = (refl, (y, refl, same_Some _ _ e))
 
+pub fresh_is : {C : Type 0} (b : Bool) (o : Option (Arrival C)) (y : Arrival C) → b ≡ true → o ≡ Some y → fresh_of b o ≡ Some y.total
+fresh_is b o y p q = rw (p, q) refl
+
 pub fresh_none : {C : Type 0} (b : Bool) (o : Option (Arrival C)) (y : Arrival C) → fresh_of b o ≡ None → b ≡ true → o ≡ Some y → ⊥
 fresh_none b o y e p q = let f : fresh_of b o ≡ Some y.total = rw (p, q) refl in none-some y.total (sym e ∙ f)
 

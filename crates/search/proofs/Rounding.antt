@@ -1,13 +1,13 @@
 -- Rounds of relaxing: one round more, and the end.
 use Rattle.std.proofs.Common.{◌≡◌, ℕ, suc, ◌*◌, ◌<◌, ◌≤◌, Bool, true, false, cond, ◌⊎◌, List, [], ◌∷◌, length, Some, None, Option, sym, refl, ap, ◌∙◌, subst, inl, inr, arith}
-use Rattle.std.proofs.lemmas.Bool.{cases_Bool, both_ways}
 use Rattle.std.proofs.lemmas.Option.{none-some, same_Some}
+use Rattle.std.proofs.lemmas.Bool.{cases_Bool, both_ways}
 use Rattle.theory.specs.Groups.{OrderedGroup}
 use Rattle.theory.specs.Walks.{Walk, start, step, AtMost}
 use Rattle.theory.proofs.Adding.{shift_right}
 use Rattle.theory.proofs.Walking.{at_most_up}
 use Rattle.search.specs.Labels.{label_at, best, held, lowest, committed_by}
-use Rattle.search.specs.Sweeps.{place, Sweep}
+use Rattle.search.specs.Sweeps.{Sweep, Visited}
 use Rattle.search.specs.Rounds.{Attained, CameBy, Came, After, Late, Commits, Still}
 use Rattle.search.specs.declared.label.Last.{Last}
 use Rattle.search.specs.declared.label.Arrival.{Arrival}
@@ -16,8 +16,8 @@ use Rattle.search.proofs.Optional.{option_cases, held_at, held_is, turned, cance
 
 -- one round more
 module _ {C A : Type 0} (G : OrderedGroup A) (worth : C → A) (size : C → ℕ) (n : ℕ) (F : ℕ → Type 0) (S : ℕ → ℕ → A → Type 0) (T : Last → ℕ → ℕ → A → Type 0)
-    (starts-below : (v : ℕ) → F v → v < n) (ends : (u v : ℕ) (c : A) → S u v c → (u < n) × (v < n)) (into : (l : Last) (u v : ℕ) (c : A) → T l u v c → S u v c) (out : (u v : ℕ) (c : A) → S u v c → (l : Last) × T l u v c)
-    (k m : ℕ) (r : Bool) (old mid new : List (Label C)) (a : After G worth size n F S T k old) (s : Sweep G worth size n T m old mid) (all : (l : Last) (u v : ℕ) (c : A) → T l u v c → place l < m) (p : Commits n r mid new) where
+    (starts_below : (v : ℕ) → F v → v < n) (ends : (u v : ℕ) (c : A) → S u v c → (u < n) × (v < n)) (into : (l : Last) (u v : ℕ) (c : A) → T l u v c → S u v c) (out : (u v : ℕ) (c : A) → S u v c → (l : Last) × T l u v c)
+    (k : ℕ) (r : Bool) (old mid new : List (Label C)) (a : After G worth size n F S T k old) (s : Sweep G worth size n T old mid) (done : (u : ℕ) → u < n → Visited G worth size n T u old mid) (p : Commits n r mid new) where
   -- a station whose label changes in this round, or does not
   record Changes (v : ℕ) : Type 0 where
     to : Arrival C
@@ -73,12 +73,12 @@ module _ {C A : Type 0} (G : OrderedGroup A) (worth : C → A) (size : C → ℕ
   relax_all : (u v : ℕ) (c : A) (y : Arrival C) → S u v c → (label_at old u).arrival ≡ Some y → AtMost G (held worth (label_at new v).arrival) (G.add (worth y.total) c)
   relax_all u v c y q e =
       elim (cases_Bool (label_at old u).changed) [
-        | inl b ↦ let t = out u v c q in best_new v _ (ends u v c q).1 (s.done t.0 u v c y t.1 (all t.0 u v c t.1) b e)
+        | inl b ↦ let t = out u v c q in best_new v _ (ends u v c q).1 (done u (ends u v c q).0 t.0 y b e v c t.1)
         | inr b ↦ falls v _ (ends u v c q).1 (a.relaxed u v c y q b e)
       ]
 
   reached : {v : ℕ} {us : List ℕ} {t : A} → Walk G F S v us t → length us ≤ suc k → AtMost G (held worth (label_at new v).arrival) t
-  reached (start {v = v} f) l = falls v G.zero (starts-below v f) (a.reach v [] G.zero (start f) (omega arith))
+  reached (start {v = v} f) l = falls v G.zero (starts_below v f) (a.reach v [] G.zero (start f) (omega arith))
   reached (step {u = u} {v = v} {us = us} {t = t} {c = c} w q) l =
       let y = held_at G worth (label_at old u).arrival t (a.reach u us t w (omega arith)) in
       at_most_up G _ _ _ (shift_right G _ _ c y.2) (relax_all u v c y.0 q y.1)

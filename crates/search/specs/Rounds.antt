@@ -16,7 +16,7 @@ use Rattle.theory.specs.Groups.{OrderedGroup}
 use Rattle.theory.specs.Walks.{Walk, AtMost}
 use Rattle.plans.specs.Plans.{stations}
 use Rattle.plans.specs.Residuals.{Direction, Step}
-use Rattle.search.specs.Fees.{paid}
+use Rattle.steps.specs.Fees.{paid}
 use Rattle.search.specs.Labels.{label_at, held, committed, begun}
 use Rattle.search.specs.Searches.{Over, From, Answer}
 use Rattle.search.specs.declared.label.Last.{Last}

@@ -15,7 +15,7 @@ use Rattle.theory.specs.Groups.{OrderedGroup}
 use Rattle.theory.specs.Walks.{Walk, Least, Reached}
 use Rattle.plans.specs.Plans.{stations, leg_at, amount, in_force}
 use Rattle.plans.specs.Residuals.{Direction, forth, back, Joined, Step}
-use Rattle.search.specs.Fees.{paid}
+use Rattle.steps.specs.Fees.{paid}
 use Rattle.search.specs.Labels.{label_at}
 use Rattle.search.specs.declared.label.Last.{Last}
 use Rattle.search.specs.declared.label.Last.TheVariants.{Start, Forth, Back}
@@ -50,9 +50,10 @@ module _ {C A : Type 0} (G : OrderedGroup A) (worth : C → A) (n : ℕ) (F : �
   abbrev pub Comes : List (Label C) → (ℕ → ℕ) → ℕ → Arrival C → Type 0
   Comes ls since v x = ((x.last ≡ Start) × F v × (worth x.total ≡ G.zero)) ⊎ Before ls since v x
 
-  -- `since v` is the round in which the label of v was found, so that last steps lead back to a start
+  -- `since v` is the round in which the label of v was found, so that last steps lead back to a start; there are at most n rounds
   pub record Settles (ls : List (Label C)) : Type 0 where
     pub since : ℕ → ℕ
+    pub early : (v : ℕ) → v < n → since v ≤ n
     pub least : (v : ℕ) (x : Arrival C) → v < n → (label_at ls v).arrival ≡ Some x → Least G F S v (worth x.total)
     pub comes : (v : ℕ) (x : Arrival C) → v < n → (label_at ls v).arrival ≡ Some x → Comes ls since v x
     pub unreached : (v : ℕ) → v < n → (label_at ls v).arrival ≡ None → (us : List ℕ) (t : A) → Walk G F S v us t → ⊥

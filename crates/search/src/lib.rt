@@ -3,20 +3,22 @@
 
 ghost use Rattle.search.specs.Searches.{Searched};
 
-pub mod fees;
 pub mod label;
+pub mod legs;
 pub mod outcome;
-mod relax;
+pub mod relax;
 mod rounds;
-pub mod starts;
+pub mod sweeps;
 
 use costs::Cost;
-pub use fees::{Fees, InBoth, InCents};
-pub use label::{Arrival, Label, Last};
+pub use label::{Arrival, Label, Last, fresh_at};
+pub use legs::ByLegs;
 use network::Network;
 pub use outcome::Outcome;
 use records::Refusal;
-pub use starts::{Everywhere, Marked, Starts};
+pub use relax::{Residual, Way, joined_leg};
+use steps::{Fees, Starts};
+pub use sweeps::Sweep;
 
 // The cheapest walk to every station, from the starting stations at zero, over the residual steps
 // of a plan at their fees. Amounts that the plan lacks count as 0. It writes a label for each
@@ -30,10 +32,21 @@ pub fn search<N: Network, C: Cost, F: Fees<C>, S: Starts>(
 ) -> Result<Outcome, Refusal>
     ensures { Searched C.Cost.group C.Cost.worth (N.Network.meaning net.now) plan.now (λ d k l x. C.Cost.worth (F.Fees.cost fees.now d k l x)) (S.Starts.starts starts.now) result labels.old labels.new }
 {
-    let stations = net.stations();
+    search_by(&ByLegs(Residual { net, plan, fees }), starts, labels)
+}
+
+// The same, where rounds relax the steps in a given way.
+pub fn search_by<C: Cost, W: Sweep<C>, S: Starts>(
+    sweep: &W,
+    starts: &S,
+    labels: &mut [Label<C>],
+) -> Result<Outcome, Refusal>
+    ensures { Searched C.Cost.group C.Cost.worth (W.Sweep.net sweep.now) (W.Sweep.plan sweep.now) (λ d k l x. C.Cost.worth (W.Sweep.cost sweep.now d k l x)) (S.Starts.starts starts.now) result labels.old labels.new }
+{
+    let stations = sweep.stations();
     if labels.len() < stations {
         return Err(Refusal::SliceTooShort);
     }
     rounds::begin(starts, stations, labels);
-    Ok(rounds::rounds(net, plan, fees, labels))
+    Ok(rounds::rounds(sweep, labels))
 }

@@ -1,37 +1,13 @@
 // Rounds of relaxing, from the first labels until none changes or there were as many as stations.
-ghost use Rattle.std.specs.Prelude.{◌≡◌, ℕ, suc, ◌+◌, ◌<◌, ◌≤◌, Bool, length, slice_set};
+ghost use Rattle.std.specs.Prelude.{◌≡◌, ℕ, ◌≤◌, Bool, length};
 ghost use Rattle.plans.specs.Plans.{stations as count_of};
-ghost use Rattle.search.specs.Labels.{begun, committed, label_at};
 ghost use Rattle.search.specs.Rounds.{Begins, Commits, Ends, RoundMore};
 
-use crate::fees::Fees;
-use crate::label::{Arrival, Label, Last};
+use crate::label::Label;
 use crate::outcome::Outcome;
-use crate::relax::{label_of, put_label, relax_legs};
-use crate::starts::Starts;
+use crate::sweeps::Sweep;
 use costs::Cost;
-use network::Network;
-
-// The label of a station before the first round.
-fn first_label<C: Cost>(is_start: bool, zero: C) -> Label<C>
-    ensures { result ≡ begun is_start zero }
-{
-    if !is_start {
-        return Label {
-            arrival: None,
-            better: None,
-            changed: false,
-        };
-    }
-    Label {
-        arrival: Some(Arrival {
-            total: zero,
-            last: Last::Start,
-        }),
-        better: None,
-        changed: true,
-    }
-}
+use steps::Starts;
 
 // Labels every start with zero, and every other station as unreached.
 pub(crate) fn begin<C: Cost, S: Starts>(starts: &S, stations: usize, labels: &mut [Label<C>])
@@ -39,37 +15,9 @@ pub(crate) fn begin<C: Cost, S: Starts>(starts: &S, stations: usize, labels: &mu
     ensures { Begins C.Cost.group C.Cost.worth C.Cost.size stations (S.Starts.starts starts.now) labels.old labels.new }
 {
     let zero = C::zero();
-    for station in 0..stations {
-        put_label(labels, station, first_label(starts.is_start(station), zero));
+    for (station, label) in labels[..stations].iter_mut().enumerate() {
+        *label = Label::first(starts.is_start(station), zero);
     }
-}
-
-// A label at the end of a round.
-fn next_label<C: Cost>(label: Label<C>) -> Label<C>
-    ensures { result ≡ committed label }
-{
-    match label.better {
-        Some(found) => Label {
-            arrival: Some(found),
-            better: None,
-            changed: true,
-        },
-        None => Label {
-            arrival: label.arrival,
-            better: None,
-            changed: false,
-        },
-    }
-}
-
-// Ends a round for one station, and says whether its label changed.
-fn commit_label<C: Cost>(labels: &mut [Label<C>], station: usize) -> bool
-    requires { station < length labels.old }
-    ensures { (labels.new ≡ slice_set labels.old station (committed (label_at labels.old station))) × (result ≡ (committed (label_at labels.old station)).changed) }
-{
-    let label = next_label(label_of(labels, station));
-    put_label(labels, station, label);
-    label.changed
 }
 
 // Ends a round, and says whether a label changed.
@@ -78,44 +26,33 @@ fn commit<C: Cost>(stations: usize, labels: &mut [Label<C>]) -> bool
     ensures { Commits stations result labels.old labels.new }
 {
     let mut changed = false;
-    for station in 0..stations {
-        if commit_label(labels, station) {
-            changed = true;
-        }
+    for label in labels[..stations].iter_mut() {
+        *label = label.next();
+        changed |= label.changed;
     }
     changed
 }
 
 // One round: whether a label changed.
-fn round<N: Network, C: Cost, F: Fees<C>>(
-    net: &N,
-    plan: &[u16],
-    fees: &F,
-    labels: &mut [Label<C>],
-) -> bool
-    requires { count_of (N.Network.meaning net.now) ≤ length labels.old }
-    ensures { (f : ℕ → Bool) → RoundMore C.Cost.group C.Cost.worth C.Cost.size (N.Network.meaning net.now) plan.now (λ d k l x. C.Cost.worth (F.Fees.cost fees.now d k l x)) f result labels.old labels.new }
+fn round<C: Cost, W: Sweep<C>>(sweep: &W, labels: &mut [Label<C>]) -> bool
+    requires { count_of (W.Sweep.net sweep.now) ≤ length labels.old }
+    ensures { (f : ℕ → Bool) → RoundMore C.Cost.group C.Cost.worth C.Cost.size (W.Sweep.net sweep.now) (W.Sweep.plan sweep.now) (λ d k l x. C.Cost.worth (W.Sweep.cost sweep.now d k l x)) f result labels.old labels.new }
 {
-    relax_legs(net, plan, fees, labels);
-    commit(net.stations(), labels)
+    sweep.sweep(labels);
+    commit(sweep.stations(), labels)
 }
 
 // Rounds until no label changes: after as many as there are stations, a round trip is below zero.
-pub(crate) fn rounds<N: Network, C: Cost, F: Fees<C>>(
-    net: &N,
-    plan: &[u16],
-    fees: &F,
-    labels: &mut [Label<C>],
-) -> Outcome
-    requires { count_of (N.Network.meaning net.now) ≤ length labels.old }
-    ensures { (f : ℕ → Bool) → Ends C.Cost.group C.Cost.worth C.Cost.size (N.Network.meaning net.now) plan.now (λ d k l x. C.Cost.worth (F.Fees.cost fees.now d k l x)) f result labels.old labels.new }
+pub(crate) fn rounds<C: Cost, W: Sweep<C>>(sweep: &W, labels: &mut [Label<C>]) -> Outcome
+    requires { count_of (W.Sweep.net sweep.now) ≤ length labels.old }
+    ensures { (f : ℕ → Bool) → Ends C.Cost.group C.Cost.worth C.Cost.size (W.Sweep.net sweep.now) (W.Sweep.plan sweep.now) (λ d k l x. C.Cost.worth (W.Sweep.cost sweep.now d k l x)) f result labels.old labels.new }
 {
-    for _round in 1..net.stations() {
-        if !round(net, plan, fees, labels) {
+    for _round in 1..sweep.stations() {
+        if !round(sweep, labels) {
             return Outcome::Settled;
         }
     }
-    if round(net, plan, fees, labels) {
+    if round(sweep, labels) {
         Outcome::RoundTrip
     } else {
         Outcome::Settled

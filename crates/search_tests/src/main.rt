@@ -1,25 +1,42 @@
-// Runs the search and the prices on small cases, and prints what they answer. The lines are
-// compared with the file `stdout`.
+// Runs the search by the legs' numbers and the prices by it on small cases, and prints what they
+// answer. The lines are compared with the file `stdout`.
 #![tactic(auto)]
 
-mod cases;
-mod print;
-mod worked;
-
+use costs::{Cents, Cost};
+use network::Network;
+use records::Refusal;
+use search::{Label, Outcome};
+use search_cases::{Searching, cases, worked};
 use std::io;
+use steps::{Fees, Starts};
+
+// The search by the legs' numbers.
+struct ByNumber;
+
+impl Searching for ByNumber {
+    fn search<N: Network, C: Cost, F: Fees<C>, S: Starts>(
+        &self,
+        net: &N,
+        plan: &[u16],
+        fees: &F,
+        starts: &S,
+        labels: &mut [Label<C>],
+    ) -> Result<Outcome, Refusal> {
+        search::search(net, plan, fees, starts, labels)
+    }
+
+    fn prices<N: Network>(
+        &self,
+        net: &N,
+        plan: &[u16],
+        labels: &mut [Label<Cents>],
+        prices: &mut [i64],
+    ) -> Result<bool, Refusal> {
+        prices::prices(net, plan, labels, prices)
+    }
+}
 
 fn main(rt: HostRuntime) -> io::Result<()> {
-    worked::prices_of_plan(&rt)?;
-    worked::prices_of_empty_plan(&rt)?;
-    worked::from_first_station(&rt)?;
-    worked::in_both(&rt)?;
-    worked::too_short(&rt)?;
-    cases::ties(&rt)?;
-    cases::unreachable_stations(&rt)?;
-    cases::zero_charges(&rt)?;
-    cases::parallel_legs(&rt)?;
-    cases::round_trip(&rt)?;
-    cases::round_trip_out_of_reach(&rt)?;
-    cases::nonsense(&rt)?;
-    cases::highest_charges(&rt)
+    worked::all(&rt, &ByNumber)?;
+    cases::all(&rt, &ByNumber)
 }

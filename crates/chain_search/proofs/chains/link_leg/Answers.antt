@@ -1,34 +1,10 @@
-use Rattle.std.proofs.Common.{◌≡◌, ◌<◌, ◌≤◌, length, sym, ap, arith}
-use Rattle.records.specs.Cleared.{cleared_leg}
-use Rattle.network.proofs.Places.{nth_none, nth_some, get_or_some}
-use Rattle.plans.specs.Plans.{leg_at, stations}
 use Rattle.chain_search.proofs.Chaining.{chained_skip, chained_put}
 use Rattle.chain_search.proofs.chains.link_leg.Goals as goal
-use Rattle.chain_search.proofs.chains.link_leg.Goals.{then-leg-stations-via-then-leg-stations, then-leg-stations-via-else-leg-stations+then-leg-stations-2}
 
 pub returns-in_default : goal.returns-in_default
-returns-in_default g c =
-    let net = g.N.Network.meaning c.args.net.now in
-    let h : length net.legs ≤ c.args.number = nth_none net.legs c.args.number (sym c.in_default.ensures) in
-    chained_skip net c.args.number c.args.heads.now c.args.nexts.now (λ j. omega (arith, j.there))
+returns-in_default g c = chained_skip (g.N.Network.meaning c.args.net.now) c.args.number c.args.heads.now c.args.nexts.now c.in_default.ensures
 
-pub returns-then-leg-stations : goal.returns-then-leg-stations
-returns-then-leg-stations g c =
-    let net = g.N.Network.meaning c.args.net.now in
-    let e : leg_at net c.args.number ≡ c.in-Some.leg = get_or_some net.legs c.args.number c.in-Some.leg cleared_leg (sym c.in-Some.ensures) in
-    chained_skip net c.args.number c.args.heads.now c.args.nexts.now (λ j.
-    elim c.then-leg-stations.branch [
-      | then-leg-stations-via-then-leg-stations w ↦ omega (arith, w.if-leg-stations.true, c.stations-stations.ensures, ap (λ l. l.start) e, j.start_below)
-      | then-leg-stations-via-else-leg-stations+then-leg-stations-2 w ↦ omega (arith, w.if-leg-stations-2.true, c.stations-stations.ensures, ap (λ l. l.end) e, j.end_below)
-    ])
-
-pub returns : goal.returns
-returns g c =
-    let net = g.N.Network.meaning c.args.net.now in
-    let k = c.args.number in
-    let e : leg_at net k ≡ c.in-Some.leg = get_or_some net.legs k c.in-Some.leg cleared_leg (sym c.in-Some.ensures) in
-    let t : k < length net.legs = nth_some net.legs k c.in-Some.leg (sym c.in-Some.ensures) in
-    let s : (leg_at net k).start < stations net = omega (arith, c.if-leg-stations.false, c.stations-stations.ensures, ap (λ l. l.start) e) in
-    let f : (leg_at net k).end < stations net = omega (arith, c.if-leg-stations-2.false, c.stations-stations.ensures, ap (λ l. l.end) e) in
-    chained_put net k c.in-Some.leg c.args.heads.now c.args.nexts.now c.put_leg.new.heads c.put_leg.new.nexts (record { there = t; start_below = s; end_below = f }) e c.requires.1.0 c.requires.1.1
+pub returns-in-Some : goal.returns-in-Some
+returns-in-Some g c =
+    chained_put (g.N.Network.meaning c.args.net.now) c.args.number c.in-Some.leg c.args.heads.now c.args.nexts.now c.put_leg.new.heads c.put_leg.new.nexts c.in-Some.ensures.0 c.in-Some.ensures.1 c.requires.1.0 c.requires.1.1
     c.put_leg.ensures.heads c.put_leg.ensures.next

@@ -1,12 +1,13 @@
-use Rattle.std.proofs.Common.{◌≡◌, suc, ◌+◌, length, subst, arith}
-use Rattle.chain_search.specs.Chains.{Chained}
-use Rattle.chain_search.proofs.Chaining.{chained_none}
+use Rattle.std.proofs.Common.{◌≡◌, suc, ◌+◌, length, refl, ◌∙◌, subst, arith}
+use Rattle.chain_search.specs.Chains.{Chained, unlinked}
+use Rattle.chain_search.proofs.Chaining.{empty_links, chained_none}
 use Rattle.chain_search.proofs.chains.link_legs.Goals as goal
 
 pub loop-number-init : goal.loop-number-init
 loop-number-init g c =
     let net = g.N.Network.meaning c.args.net.now in
-    (c.legs-number-end.ensures, chained_none net c.clear.new.heads c.args.nexts.now (λ v h. c.clear.ensures v (omega (arith, c.stations.ensures))))
+    let empty : c.default.result ≡ unlinked = empty_links c.default.result c.default.ensures.0 c.default.ensures.1 in
+    (c.legs-number-end.ensures, chained_none net c.fill.new.self c.args.nexts.now (λ v h. c.fill.ensures.clones v unlinked (omega (arith, c.requires.0)) refl ∙ empty))
 
 pub loop-number-preserved : goal.loop-number-preserved
 loop-number-preserved g c =

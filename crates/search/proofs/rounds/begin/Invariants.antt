@@ -1,6 +1,7 @@
-use Rattle.search.proofs.Writing.{Beginning}
+use Rattle.std.proofs.Common.{◌≡◌, ℕ, ◌<◌}
+use Rattle.search.specs.Labels.{begun, label_at}
 use Rattle.search.proofs.rounds.begin.Given as goal
 
 -- the labels below are written
 abbrev pub invariant-loop-station : goal.invariant-loop-station
-invariant-loop-station g l = Beginning l.stations l.station (g.S.Starts.starts l.starts) l.zero l.initial.labels l.labels
+invariant-loop-station g l = (v : ℕ) → v < l.station → label_at l.label-items v ≡ begun (g.S.Starts.starts l.starts v) l.zero

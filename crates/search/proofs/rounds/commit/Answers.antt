@@ -1,21 +1,17 @@
-use Rattle.std.proofs.Common.{arith}
-use Rattle.search.proofs.Writing.{committing_none, committing_true, committing_false, committing_all}
+use Rattle.std.proofs.Common.{◌≡◌, ◌<◌, length, arith, length-take}
+use Rattle.std.proofs.lemmas.List.{get_or_default}
+use Rattle.search.specs.Labels.{unlabelled}
+use Rattle.search.proofs.Writing.{committing_more, committing_all}
 use Rattle.search.proofs.rounds.commit.Goals as goal
-use Rattle.search.proofs.rounds.commit.Goals.{then-commit_label, else-commit_label}
 
-pub loop-station-init : goal.loop-station-init
-loop-station-init g c = committing_none c.args.stations c.args.labels.now
-
-pub loop-station-preserved : goal.loop-station-preserved
-loop-station-preserved g c =
-    elim c.if-commit_label.branch [
-      | then-commit_label w ↦ rw w.changed-is
-          (committing_true c.args.stations c.loop-station.station c.loop-station.changed c.commit_label.result c.args.labels.now c.loop-station.labels c.commit_label.new.labels
-          (omega arith) (omega (arith, c.requires)) c.commit_label.ensures.0 c.commit_label.ensures.1 c.loop-station.invariant w.if-commit_label.true)
-      | else-commit_label w ↦ rw w.changed-is
-          (committing_false c.args.stations c.loop-station.station c.loop-station.changed c.commit_label.result c.args.labels.now c.loop-station.labels c.commit_label.new.labels
-          (omega arith) (omega (arith, c.requires)) c.commit_label.ensures.0 c.commit_label.ensures.1 c.loop-station.invariant w.if-commit_label.false)
-    ]
+pub loop-label-preserved : goal.loop-label-preserved
+loop-label-preserved g c =
+    let h : c.loop-label.label-index < length c.loop-label.label-items = omega (arith, c.loop-label.auto.label-items) in
+    committing_more c.loop-label.label-index c.loop-label.changed _ c.next.result _ c.loop-label.label-items h
+    (get_or_default c.loop-label.label-items c.loop-label.label-index c.label-item.result unlabelled h) c.next.ensures c.loop-label.invariant
 
 pub returns : goal.returns
-returns g c = committing_all c.args.stations c.loop-station.station c.loop-station.changed c.args.labels.now c.loop-station.labels c.loop-station-test.false c.loop-station.invariant
+returns g c =
+    let e : length c.loop-label.label-items ≡ c.args.stations = omega (arith, c.loop-label.auto.label-items, length-take c.args.stations c.args.labels.now, c.requires) in
+    let f : c.args.stations ≡ c.loop-label.label-index = omega (arith, c.loop-label.auto, length-take c.args.stations c.args.labels.now, c.requires) in
+    committing_all c.args.stations c.loop-label.label-index c.loop-label.changed c.args.labels.now c.loop-label.label-items f e c.loop-label.invariant

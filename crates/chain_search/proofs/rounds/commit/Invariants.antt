@@ -1,6 +1,0 @@
-use Rattle.chain_search.proofs.Writing.{Committing}
-use Rattle.chain_search.proofs.rounds.commit.Given as goal
-
--- the labels below have ended the round
-abbrev pub invariant-loop-station : goal.invariant-loop-station
-invariant-loop-station g l = Committing l.stations l.station l.changed l.initial.labels l.labels
