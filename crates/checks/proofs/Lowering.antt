@@ -1,5 +1,5 @@
 -- The lowest number that passes a test.
-use Rattle.std.proofs.Common.{◌≡◌, ℕ, zero, suc, ◌+◌, ◌<◌, Bool, true, false, cond, Some, None, Option, sym, refl, ap, ◌∙◌, add-one, arith, MatchOption}
+use Rattle.std.proofs.Common.{◌≡◌, ℕ, zero, suc, ◌<◌, ◌≤◌, Bool, true, false, cond, Some, None, Option, sym, refl, ap, ◌∙◌, arith, MatchOption}
 use native.Mathlib.Decide.{ℕ_discrete}
 use Rattle.checks.specs.Checks.{or_else, lowest}
 use Rattle.checks.specs.Theorems.{NoneBelow, Lowest, LowestSays}
@@ -21,10 +21,7 @@ pub says : LowestSays
 says passes zero = λ k h p. absurd (omega arith)
 says passes (suc m) = next passes m (lowest passes m) (says passes m)
 
--- ---- none so far, one by one
-pub none_more : (passes : ℕ → Bool) (m : ℕ) → lowest passes m ≡ None → passes m ≡ false → lowest passes (m + 1) ≡ None
-none_more passes m e f = rw (add-one, e, f) refl
-
+-- ---- none below, and then one
 later : (passes : ℕ → Bool) (m k : ℕ) → lowest passes m ≡ None → passes m ≡ true → m < k → lowest passes k ≡ Some m
 later passes m zero e p h = absurd (omega arith)
 later passes m (suc k) e p h =
@@ -33,7 +30,7 @@ later passes m (suc k) e p h =
       | no d ↦ rw (later passes m k e p (omega arith)) refl
     ]
 
-pub found : (passes : ℕ → Bool) (m k : ℕ) → lowest passes m ≡ None → true ≡ passes m → m < k → Some m ≡ lowest passes k
+found : (passes : ℕ → Bool) (m k : ℕ) → lowest passes m ≡ None → true ≡ passes m → m < k → Some m ≡ lowest passes k
 found passes m k e p h = sym (later passes m k e (sym p) h)
 
 -- ---- none at all
@@ -47,3 +44,10 @@ of_none passes (suc m) n =
     let h : passes m ≡ true → ⊥ = n m (omega arith) in
     let f : (b : Bool) → passes m ≡ b → cond b (Some m) None ≡ None = λ b. elim b as (λ v. passes m ≡ v → cond v (Some m) None ≡ None) [ true ↦ λ p. absurd (h p) | false ↦ λ p. refl ] in
     rw low (f (passes m) refl)
+
+-- ---- the first that a search meets
+pub first_is : (passes : ℕ → Bool) (m : ℕ) (r : Option ℕ) → MatchOption r ((k : ℕ) → 0 ≤ k → k < m → passes k ≡ false) (λ i. (0 ≤ i) × (i < m) × (passes i ≡ true) × ((k : ℕ) → 0 ≤ k → k < i → passes k ≡ false))
+    → r ≡ lowest passes m
+first_is passes m None n = sym (of_none passes m (λ k h p. let e : ◌≡◌ {A = Bool} true false = sym p ∙ n k (omega arith) h in let y : ◌≡◌ {A = ℕ} 0 1 = cc in omega arith))
+first_is passes m (Some i) n =
+    found passes i m (of_none passes i (λ k h p. let e : ◌≡◌ {A = Bool} true false = sym p ∙ n.3 k (omega arith) h in let y : ◌≡◌ {A = ℕ} 0 1 = cc in omega arith)) (sym n.2) n.1

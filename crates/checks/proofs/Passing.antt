@@ -1,12 +1,17 @@
 -- What is settled once the checks have passed.
-use Rattle.std.proofs.Common.{◌≡◌, ℕ, ◌+◌, ◌<◌, ◌≤◌, Bool, true, false, cond, not, ◌||◌, length, ℤ, pos, negsuc, ◌+ℤ◌, ◌≤ℤ◌, Some, None, Option, sym, refl, ap, ◌∙◌, add-one, arith}
-use lib.Signed.{lt_z}
+use Rattle.std.proofs.Common.{◌≡◌, ℕ, ◌<◌, ◌≤◌, Bool, true, false, cond, not, ◌||◌, length, ℤ, pos, negsuc, ◌≤ℤ◌, Some, None, Option, sym, refl, ap, ◌∙◌, arith, eqb, of_z, w64, MatchOption}
+use lib.Signed.{lt_z, mag}
 use Rattle.std.specs.Option.{option_map}
+use Rattle.std.specs.List.{slice_get}
 use Rattle.std.proofs.lemmas.Int.{ints}
+use Rattle.std.proofs.lemmas.Bool.{ne_eqb}
+use Rattle.std.proofs.lemmas.Option.{get_or_from_slice_get}
+use Rattle.network.proofs.Places.{get_or_none}
+use Rattle.certificates.proofs.Balanced.{total_listed}
 use Rattle.std.proofs.lemmas.Bool.Decides.{nat_tests}
 use Rattle.records.specs.Cleared.{cleared_leg}
 use Rattle.records.specs.declared.leg.Leg.{Leg}
-use Rattle.network.specs.Nets.{Net}
+use Rattle.network.specs.Nets.{Net, total}
 use Rattle.plans.specs.Plans.{stations, leg_at, balance_at}
 use Rattle.certificates.specs.Totals.{total_below}
 use Rattle.checks.specs.Checks.{or_else, lowest, too_short, senseless_leg, senseless, too_large, zero_sum, uneven, checked}
@@ -15,16 +20,21 @@ use Rattle.checks.specs.declared.lengths.Lengths.{Lengths}
 use Rattle.checks.proofs.Lowering.{none_below, of_none}
 
 -- a leg that is not there has equal ends
-pub none_senseless : (n : ℕ) → senseless_leg n cleared_leg ≡ true
+none_senseless : (n : ℕ) → senseless_leg n cleared_leg ≡ true
 none_senseless n = grind (arith, nat_tests)
 
--- a leg that was asked for
-pub judged : (net : Net) (k : ℕ) (r : Bool) (n : ℕ) (l : Leg) → r ≡ senseless_leg n l → n ≡ stations net → leg_at net k ≡ l → r ≡ senseless net k
-judged net k r n l e s q = e ∙ ap (λ m. senseless_leg m l) s ∙ ap (senseless_leg (stations net)) (sym q)
+-- a leg as code asks for it
+pub judged_option : (net : Net) (k : ℕ) (o : Option Leg) (r : Bool) → o ≡ slice_get net.legs k → MatchOption o (r ≡ true) (λ l. r ≡ senseless_leg (stations net) l) → r ≡ senseless net k
+judged_option net k None r e h = h ∙ sym (ap (senseless_leg (stations net)) (get_or_none net.legs k cleared_leg (sym e)) ∙ none_senseless (stations net))
+judged_option net k (Some l) r e h = h ∙ ap (senseless_leg (stations net)) (sym (get_or_from_slice_get net.legs k l cleared_leg (sym e)))
 
--- one balance more
-pub total_more : (f : ℕ → ℤ) (i : ℕ) (x total b : ℤ) → x ≡ total +ℤ b → b ≡ f i → total ≡ total_below i f → x ≡ total_below (i + 1) f
-total_more f i x total b e at before = rw add-one (e ∙ ap (λ (z : ℤ). z +ℤ b) before ∙ ap (λ (z : ℤ). total_below i f +ℤ z) at)
+-- the test on a sum as code makes it
+uneven_by : (z : ℤ) → mag z < 9223372036854775808 → not (eqb (of_z w64 z) 0) ≡ not (zero_sum z)
+uneven_by (pos a) f = refl
+uneven_by (negsuc a) f = ap not (ne_eqb _ _ (omega arith))
+
+pub uneven_sum : (net : Net) (z : ℤ) → z ≡ total net.balances → mag z < 9223372036854775808 → not (eqb (of_z w64 z) 0) ≡ uneven net
+uneven_sum net z e f = uneven_by z f ∙ ap (λ v. not (zero_sum v)) (e ∙ sym (total_listed net))
 
 -- ---- tests that fail
 not_true : (b : Bool) → (b ≡ true → ⊥) → b ≡ false

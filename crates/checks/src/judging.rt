@@ -1,11 +1,10 @@
 // The questions behind the refusals, one by one.
 ghost use Rattle.std.specs.Prelude.{◌≡◌, length};
-ghost use Rattle.certificates.specs.Totals.{total_below};
-ghost use Rattle.plans.specs.Plans.{balance_at, stations as count_of};
-ghost use Rattle.checks.specs.Checks.{lowest, senseless, senseless_leg, too_large, too_short};
+ghost use Rattle.plans.specs.Plans.{stations as count_of};
+ghost use Rattle.checks.specs.Checks.{lowest, senseless, senseless_leg, too_large, too_short, uneven};
 
 use crate::lengths::Lengths;
-use network::{MOST_LEGS, MOST_STATIONS, Network};
+use network::{MOST_LEGS, MOST_STATIONS, Network, balance_of, total_balance};
 use records::Leg;
 
 // No leg may carry more bikes.
@@ -32,8 +31,8 @@ pub(crate) fn is_too_short<N: Network>(net: &N, lengths: Lengths) -> bool
 fn makes_no_sense(stations: usize, leg: Leg) -> bool
     ensures { result ≡ senseless_leg stations leg }
 {
-    leg.start as usize >= stations
-        || leg.end as usize >= stations
+    usize::from(leg.start) >= stations
+        || usize::from(leg.end) >= stations
         || leg.start == leg.end
         || leg.capacity > MOST_CAPACITY
         || leg.charge > MOST_CHARGE
@@ -43,61 +42,34 @@ fn makes_no_sense(stations: usize, leg: Leg) -> bool
 fn is_senseless<N: Network>(net: &N, number: usize) -> bool
     ensures { result ≡ senseless (N.Network.meaning net.now) number }
 {
-    let Some(leg) = net.leg(number) else {
-        return true;
-    };
-    makes_no_sense(net.stations(), leg)
+    net.leg(number)
+        .is_none_or(|leg| makes_no_sense(net.stations(), leg))
 }
 
 // The lowest leg that makes no sense.
 pub(crate) fn lowest_senseless<N: Network>(net: &N) -> Option<usize>
     ensures { result ≡ lowest (senseless (N.Network.meaning net.now)) (length (N.Network.meaning net.now).legs) }
 {
-    for number in 0..net.legs() {
-        if is_senseless(net, number) {
-            return Some(number);
-        }
-    }
-    None
-}
-
-// The balance of a station, 0 of one that is not there.
-fn balance_of<N: Network>(net: &N, station: usize) -> i32
-    ensures { result ≡ balance_at (N.Network.meaning net.now) station }
-{
-    let Some(balance) = net.balance(station) else {
-        return 0;
-    };
-    balance
+    (0..net.legs()).find(|number| is_senseless(net, *number))
 }
 
 // Whether a balance is too far from 0.
 fn is_too_large<N: Network>(net: &N, station: usize) -> bool
     ensures { result ≡ too_large (N.Network.meaning net.now) station }
 {
-    let balance = balance_of(net, station);
-    balance < -MOST_BALANCE || balance > MOST_BALANCE
+    !(-MOST_BALANCE..=MOST_BALANCE).contains(&balance_of(net, station))
 }
 
 // The lowest station with a balance too far from 0.
 pub(crate) fn lowest_too_large<N: Network>(net: &N) -> Option<usize>
     ensures { result ≡ lowest (too_large (N.Network.meaning net.now)) (count_of (N.Network.meaning net.now)) }
 {
-    for station in 0..net.stations() {
-        if is_too_large(net, station) {
-            return Some(station);
-        }
-    }
-    None
+    (0..net.stations()).find(|station| is_too_large(net, *station))
 }
 
-// The sum of all balances.
-pub(crate) fn total_balance<N: Network>(net: &N) -> i64
-    ensures { result ≡ total_below (count_of (N.Network.meaning net.now)) (balance_at (N.Network.meaning net.now)) }
+// Whether the balances do not sum to 0.
+pub(crate) fn is_uneven<N: Network>(net: &N) -> bool
+    ensures { result ≡ uneven (N.Network.meaning net.now) }
 {
-    let mut total = 0i64;
-    for station in 0..net.stations() {
-        total += balance_of(net, station) as i64;
-    }
-    total
+    total_balance(net) != 0
 }

@@ -24,23 +24,19 @@ pub fn check<N: Network>(net: &N, lengths: Lengths) -> Result<(), Refusal>
     if let Some(station) = judging::lowest_too_large(net) {
         return Err(Refusal::BalanceTooLarge { station });
     }
-    if judging::total_balance(net) != 0 {
+    if judging::is_uneven(net) {
         return Err(Refusal::UnevenBalances);
     }
     Ok(())
 }
 
 // The lowest number that qualifies does qualify, and no lower one does.
-pub fn lowest_is_the_lowest() -> u8
+pub fn lowest_is_the_lowest()
     ensures { LowestSays }
-{
-    0
-}
+{}
 
 // A planning that deserves no refusal before it searches has long enough slices and tables, legs that make sense, and
 // balances within the limits that sum to 0.
-pub fn passed_checks_say() -> u8
+pub fn passed_checks_say()
     ensures { PassedSay }
-{
-    0
-}
+{}

@@ -1,2 +1,2 @@
-pub mod Entering
+pub mod Handing
 pub mod Moving

@@ -24,8 +24,10 @@ pub fn begin<N: Network>(
     if plan.len() < legs || left.len() < stations {
         return Err(Refusal::SliceTooShort);
     }
-    laying::clear(legs, plan);
+    let plan = &mut plan[..legs];
+    let left = &mut left[..stations];
+    plan.fill(0);
     laying::write_balances(net, left);
     laying::carry_all(net, standing, plan, left);
-    Ok(laying::total_over(stations, left))
+    Ok(laying::total_over(left))
 }

@@ -1,45 +1,45 @@
 -- How a planning begins and ends.
-use Rattle.std.proofs.Common.{◌≡◌, ℕ, zero, suc, ◌<◌, ◌≤◌, Bool, true, false, List, ◌++◌, length, take, drop, ℤ, pos, negsuc, ◌≤ℤ◌, None, Ok, Err, Result, sym, refl, ap, ◌∙◌, subst, inl, inr, arith, length-take-le}
+use Rattle.std.proofs.Common.{◌≡◌, ℕ, zero, suc, ◌<◌, ◌≤◌, Bool, true, false, List, length, take, drop, ℤ, pos, negsuc, ◌≤ℤ◌, None, Ok, Err, Result, sym, refl, subst, inl, inr, arith, length-take-le}
 use native.Mathlib.Decide.{ℕ_discrete}
 use borrow.Author.Differences.{ints}
-use lib.Seq.{take-append_seam}
 use Rattle.records.specs.declared.refusal.Refusal.{Refusal}
 use Rattle.network.specs.Nets.{Net, Within}
 use Rattle.plans.specs.Plans.{stations, balance_at, sum_below, Fits, EndsBelow, CheapestThenNearest}
-use Rattle.plans.specs.Residuals.{Certifies}
 use Rattle.plans.specs.Cuts.{Cut, left_over}
 use Rattle.plans.specs.Prices.{CentsRoundTrip}
 use Rattle.plans.proofs.Best
 use Rattle.plans.proofs.Cutting
 use Rattle.certificates.specs.Starts.{level}
-use Rattle.certificates.specs.Totals.{over, all_over, total_below}
+use Rattle.certificates.specs.Totals.{over, total_below}
 use Rattle.certificates.proofs.Starting
 use Rattle.certificates.proofs.Balanced
 use Rattle.first_plan.specs.Begins.{Begun}
 use Rattle.checks.specs.Checks.{checked}
-use Rattle.checks.specs.declared.lengths.Lengths.{Lengths}
 use Rattle.checks.proofs.Passing
-use Rattle.costs.specs.declared.cents.Cents.{Cents}
+use Rattle.costs.specs.Kinds.{Cents}
 use Rattle.chain_search.specs.Searches.{Enough}
 use Rattle.chain_search.specs.declared.chains.Links.{Links}
-use Rattle.chain_search.specs.declared.label.Label.{Label}
-use Rattle.chain_prices.specs.Priced.{Prices, Priced}
+use Rattle.search.specs.declared.label.Label.{Label}
+use Rattle.prices.specs.Priced.{Prices}
+use Rattle.chain_prices.specs.Priced.{Priced}
 use Rattle.pushing.specs.Sends.{Both}
-use Rattle.planning.specs.Planned.{Impossible, Planned, Solvable, Solves, lengths_of}
+use Rattle.planning.specs.Planned.{Impossible, SameTables, lengths_of}
 use Rattle.planning.specs.Reached.{reached_below, WritesCut}
-use Rattle.planning.specs.States.{Underway}
+use Rattle.planning.specs.States.{the_plan, Prepared, Underway, UnderwayIn}
+use Rattle.planning.specs.declared.tables.Tables.{Tables}
 use Rattle.planning.proofs.Sending.{exact}
 
 -- ---- the beginning
-pub begins : (net : Net) (standing before plan : List ℕ) (left left' : List ℤ) (total : ℕ) → length plan ≡ length net.legs → Begun net standing before plan left left' total → Underway net standing plan left' total
-begins net standing before plan left left' total e b =
-    let p = exact net plan e in
+pub begins : (net : Net) (standing before after : List ℕ) (left left' : List ℤ) (total : ℕ) → length net.legs ≤ length after → Begun net standing before after left left' total → Underway net standing (the_plan net after) left' total
+begins net standing before after left left' total h b =
+    let e : length (the_plan net after) ≡ length net.legs = length-take-le (length net.legs) after h in
+    let p = exact net (the_plan net after) e in
     record {
       one_each = e;
-      tracks = record { fits = Starting.fits net standing _ b.first; left_overs = b.left_each };
-      over_all = b.over_all ∙ ap (all_over net) p;
+      tracks = record { fits = rw p (Starting.fits net standing _ b.first); left_overs = rw p b.left_each };
+      over_all = b.over_all;
       potential = level;
-      certified = subst (λ ys. Certifies net standing ys level) p (Starting.certified net standing _ b.first);
+      certified = Starting.certified net standing _ b.first;
     }
 
 -- ---- the end
@@ -52,7 +52,7 @@ none_over (pos a) e = omega (arith, ints, e)
 none_over (negsuc a) e = omega (arith, ints)
 
 -- nothing is over, so the plan obeys; it is certified, so it is the best
-pub finished : (net : Net) (standing plan : List ℕ) (left : List ℤ) → EndsBelow net → total_below (stations net) (balance_at net) ≡ pos 0 → Underway net standing plan left 0 → CheapestThenNearest net standing plan
+finished : (net : Net) (standing plan : List ℕ) (left : List ℤ) → EndsBelow net → total_below (stations net) (balance_at net) ≡ pos 0 → Underway net standing plan left 0 → CheapestThenNearest net standing plan
 finished net standing plan left e t u =
     let fit : Fits net plan = subst (Fits net) (exact net plan u.one_each) u.tracks.fits in
     let low : (v : ℕ) → v < stations net → left_over net plan v ≤ℤ pos 0 = λ v h. none_over (left_over net plan v) (no_part (stations net) (λ w. over (left_over net plan w)) (sym u.over_all) v h) in
@@ -74,26 +74,26 @@ impossible net count ls prices cut cut' e h c w =
 
 -- ---- checks passed
 -- what the checks settle
-pub solvable : (net : Net) (prices : List ℤ) (cut amounts : List ℕ) (ls : List (Label Both)) (cs : List (Label Cents)) (hs : List Links) (left : List ℤ) (ms : List Bool) (ns : List Links) (legs : ℕ) → Within net → legs ≡ length net.legs
-    → checked net (lengths_of prices cut amounts ls cs hs left ms ns) ≡ None → Solvable net prices cut ls cs hs left ms (take legs amounts) ns
-solvable net prices cut amounts ls cs hs left ms ns legs w l e =
-    let p = (Passing.say net (lengths_of prices cut amounts ls cs hs left ms ns)).0 e in
+pub prepared : (net : Net) (prices : List ℤ) (cut : List ℕ) (before tables : Tables) → Within net → checked net (lengths_of prices cut before) ≡ None → SameTables before tables → Prepared net tables
+prepared net prices cut before tables w e t =
+    let p = (Passing.say net (lengths_of prices cut before)).0 e in
     let a = p.stations_suffice in
     let b = p.legs_suffice in
     let n = w.few_stations in
     let m = w.few_legs in
     record {
-      room = record { labels = omega (arith, a, n); heads = omega (arith, a, n); marks = omega (arith, a, n); left_overs = omega (arith, a, n); nexts = omega (arith, b, m) };
-      cent_room = omega (arith, a, n);
-      price_room = p.prices_suffice;
-      cut_room = p.cut_suffices;
-      one_each = length-take-le legs amounts (omega (arith, b, m, l)) ∙ l;
+      amounts = omega (arith, b, m, t.amounts.long);
+      labels = omega (arith, a, n, t.labels.long);
+      cents = omega (arith, a, n, t.cents.long);
+      heads = omega (arith, a, n, t.heads.long);
+      left = omega (arith, a, n, t.left.long);
+      marks = omega (arith, a, n, t.marks.long);
+      nexts = omega (arith, b, m, t.nexts.long);
       ends_below = p.ends_below;
-      even = p.even;
     }
 
--- the plan is the first part of the amounts
-pub solved : (net : Net) (standing : List ℕ) (lengths : Lengths) (r : Result (ℕ × ℕ) Refusal) (prices prices' : List ℤ) (cut cut' plan rest : List ℕ) → checked net lengths ≡ None → Solves net standing r prices prices' cut cut' plan
-    → Planned net standing lengths r prices prices' cut cut' (plan ++ rest)
-solved net standing lengths (Ok a) prices prices' cut cut' plan rest e s = let q : take (length net.legs) (plan ++ rest) ≡ plan = rw (sym s.best.obeys.fits.one_each) (take-append_seam plan rest) in (e, rw q s)
-solved net standing lengths (Err x) prices prices' cut cut' plan rest e s = rw e s
+-- and no bike is over
+pub best : (net : Net) (standing : List ℕ) (prices : List ℤ) (cut : List ℕ) (before tables : Tables) → checked net (lengths_of prices cut before) ≡ None → UnderwayIn net standing tables 0 → CheapestThenNearest net standing (the_plan net tables.amounts.now)
+best net standing prices cut before tables e u =
+    let p = (Passing.say net (lengths_of prices cut before)).0 e in
+    finished net standing (the_plan net tables.amounts.now) tables.left.now p.ends_below p.even u

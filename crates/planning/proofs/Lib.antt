@@ -3,3 +3,4 @@ pub mod Showing
 pub mod Sending
 pub mod Turning
 pub mod Finishing
+pub mod Keeping

@@ -12,18 +12,14 @@ use Rattle.plans.specs.Plans.{stations, Fits, EndsBelow}
 use Rattle.plans.specs.Residuals.{Direction, Step}
 use Rattle.plans.specs.Cuts.{among, Cut, left_over, Uncrossed}
 use Rattle.plans.proofs.Cutting.{is_cut}
-use Rattle.chain_search.specs.Labels.{label_at}
-use Rattle.chain_search.specs.Searches.{Over, From, Settles}
-use Rattle.chain_search.specs.declared.label.Label.{Label}
-use Rattle.chain_search.proofs.Optional.{option_cases}
-use Rattle.chain_search.proofs.Stepping.{ends}
+use Rattle.search.specs.Labels.{label_at}
+use Rattle.search.specs.Searches.{Over, From, Settles}
+use Rattle.search.specs.declared.label.Label.{Label}
+use Rattle.search.proofs.Optional.{option_cases}
+use Rattle.search.proofs.Stepping.{ends}
 use Rattle.planning.specs.Reached.{is_there, reached, reached_below}
 
 -- ---- lists by rising number
-absent_above : (v : ℕ) (us : List ℕ) → AllByRecursion (λ u. u < v) us → Absent v us
-absent_above v [] h = tt
-absent_above v (u ∷ us) h = (λ e. omega (arith, h.0), absent_above v us h.1)
-
 absent_more : (v w : ℕ) (us : List ℕ) → Absent v us → (v ≡ w → ⊥) → Absent v (us ++ (w ∷ []))
 absent_more v w [] a n = (n, tt)
 absent_more v w (u ∷ us) a n = (a.0, absent_more v w us a.1 n)

@@ -1,6 +1,7 @@
 -- One turn: what a search from the stations with bikes over shows, and what the sendings after it leave.
-use Rattle.std.proofs.Common.{◌≡◌, ℕ, zero, suc, ◌<◌, Bool, true, false, T, ◌⊎◌, List, get_or, ℤ, pos, negsuc, ◌≤ℤ◌, ◌<ℤ◌, Some, None, Option, sym, refl, ap, ◌∙◌, subst, inl, inr, arith}
+use Rattle.std.proofs.Common.{◌≡◌, ℕ, zero, suc, ◌<◌, Bool, true, false, T, ◌⊎◌, List, ◌++◌, length, take, drop, get_or, ℤ, pos, negsuc, ◌<ℤ◌, Some, None, Option, sym, refl, ap, ◌∙◌, subst, inl, inr, arith}
 use borrow.Author.Differences.{ints}
+use lib.Seq.{take-append_seam}
 use lib.Signed.{lt_z}
 use Rattle.network.specs.Nets.{Net}
 use Rattle.theory.specs.Walks.{step, RoundTrip}
@@ -11,16 +12,19 @@ use Rattle.certificates.specs.Totals.{over}
 use Rattle.certificates.proofs.Raised
 use Rattle.steps.specs.Fees.{paid, both_worth}
 use Rattle.steps.proofs.Paying.{both_steps}
-use Rattle.chain_search.specs.Labels.{label_at}
-use Rattle.chain_search.specs.Searches.{Answer, From}
-use Rattle.chain_search.specs.declared.label.Arrival.{Arrival}
-use Rattle.chain_search.specs.declared.label.Label.{Label}
-use Rattle.chain_search.specs.declared.outcome.Outcome.TheVariants.{RoundTrip as Trip}
-use Rattle.chain_search.proofs.Optional.{option_cases}
-use Rattle.chain_search.proofs.Stepping.{ends}
+use Rattle.search.specs.Labels.{label_at}
+use Rattle.search.specs.Searches.{Answer, From}
+use Rattle.chain_search.specs.Searches.{TooShort}
+use Rattle.search.specs.declared.label.Arrival.{Arrival}
+use Rattle.search.specs.declared.label.Label.{Label}
+use Rattle.search.specs.declared.outcome.Outcome.{Outcome}
+use Rattle.search.specs.declared.outcome.Outcome.TheVariants.{Settled, RoundTrip as Trip}
+use Rattle.search.proofs.Optional.{option_cases}
+use Rattle.search.proofs.Stepping.{ends}
 use Rattle.pushing.specs.Sends.{Both, worth_of, SettledFor, Agrees}
 use Rattle.planning.specs.Reached.{reached}
-use Rattle.planning.specs.States.{Underway, Marks, SentAll, Turned}
+use Rattle.planning.specs.States.{the_plan, Prepared, Underway, UnderwayIn, Marks, Marking, SendsAll, Turned}
+use Rattle.planning.specs.declared.tables.Tables.{Tables}
 use Rattle.planning.proofs.Showing.{there, shows_cut}
 use Rattle.planning.proofs.Sending.{exact}
 
@@ -54,7 +58,7 @@ zero_below z p = holds (lt_z (pos 0) z) p.lt
     holds false t = absurd t
 
 module _ (net : Net) (standing plan : List ℕ) (left : List ℤ) (o : ℕ) (u : Underway net standing plan left o) (f : ℕ → Bool) (ls : List (Label Both)) where
-  pub no_trip : Answer both_group worth_of net plan (both_worth standing) f Trip ls → ⊥
+  no_trip : Answer both_group worth_of net plan (both_worth standing) f Trip ls → ⊥
   no_trip r = Raised.no_round_trip net standing plan u.potential u.certified (subst (λ S. RoundTrip both_group S) (both_steps net standing plan) r.trip)
 
   -- the plan's steps, as the search sees them
@@ -87,24 +91,51 @@ module _ (net : Net) (standing plan : List ℕ) (left : List ℤ) (o : ℕ) (u :
   left_is : (v : ℕ) → v < stations net → get_or left v (pos 0) ≡ left_over net plan v
   left_is v h = u.tracks.left_overs v h ∙ ap (λ ys. left_over net ys v) (exact net plan u.one_each)
 
-  pub starts_over : (v : ℕ) → From net marked v → pos 0 <ℤ left_over net plan v
+  starts_over : (v : ℕ) → From net marked v → pos 0 <ℤ left_over net plan v
   starts_over v s = subst (λ z. pos 0 <ℤ z) (left_is v s.0) (above_zero (get_or left v (pos 0)) (sym (m v s.0) ∙ s.1))
 
   over_marked : (v : ℕ) → v < stations net → pos 0 <ℤ left_over net plan v → marked v ≡ true
   over_marked v h p = m v h ∙ zero_below (get_or left v (pos 0)) (subst (λ z. pos 0 <ℤ z) (sym (left_is v h)) p)
 
-  module _ (ls : List (Label Both)) (z : SettledFor net standing plan marked ls) (e : EndsBelow net) (some : 0 < o) (r : ℕ) (after : List ℕ) (left' : List ℤ) (s : SentAll net standing ls o r plan after left') where
-    not_lacking : r ≡ o → (v : ℕ) → v < stations net → reached ls v ≡ true → pos 0 ≤ℤ left_over net plan v
-    not_lacking q v h t = let x = there (label_at ls v).arrival t in (s.still q).1 v x.0 h x.1
+  settled : (tables : Tables) (r : ℕ) (after : List ℕ) (z : SettledFor net standing plan marked tables.labels.now) → EndsBelow net → 0 < o → SendsAll net standing tables.labels.now o r plan after left tables.left.now
+      → the_plan net tables.amounts.now ≡ after → Turned net standing o r tables
+  settled tables r after z e some all p =
+      let ls = tables.labels.now in
+      let s = all.sent marked z starts_over u.one_each u.tracks u.over_all in
+      let a = agreeing net standing plan left o u marked ls z in
+      let fit = subst (Fits net) (exact net plan u.one_each) u.tracks.fits in
+      let w = some_part (stations net) (λ v. over (left_over net plan v)) (omega (arith, some, u.over_all)) in
+      let q = over_zero (left_over net plan w.0) w.2 in
+      record {
+        underway = rw p (record { one_each = s.one_each; tracks = s.tracks; over_all = s.over_all; potential = a.0; certified = s.certified a.0 a.2 a.1 });
+        fewer = s.fewer;
+        stuck = λ n.
+            shows_cut both_group worth_of net plan (paid (both_worth standing) net plan) marked ls z e fit (λ v h t. let x = there (label_at ls v).arrival t in (s.still n).1 v x.0 h x.1) w.0 w.1
+            (over_marked w.0 w.1 q) q;
+      }
 
-    pub turned : Turned net standing o r after left' ls
-    turned =
-        let a = agreeing net standing plan left o u marked ls z in
-        let fit = subst (Fits net) (exact net plan u.one_each) u.tracks.fits in
-        let w = some_part (stations net) (λ v. over (left_over net plan v)) (omega (arith, some, u.over_all)) in
-        let p = over_zero (left_over net plan w.0) w.2 in
-        record {
-          underway = record { one_each = s.one_each; tracks = s.tracks; over_all = s.over_all; potential = a.0; certified = s.certified a.0 a.2 a.1 };
-          fewer = s.fewer;
-          stuck = λ q. shows_cut both_group worth_of net plan (paid (both_worth standing) net plan) marked ls z e fit (not_lacking q) w.0 w.1 (over_marked w.0 w.1 p) p;
-        }
+-- a turn in the tables of a planning, of whose amounts the first n are the plan
+module _ (net : Net) (standing : List ℕ) (before : Tables) (o : ℕ) (u : UnderwayIn net standing before o) (ready : Prepared net before) (n : ℕ) (e : n ≡ length net.legs) (marks : List Bool) where
+  abbrev starts : ℕ → Bool
+  starts v = get_or marks v false
+
+  abbrev sought : Outcome → List (Label Both) → Type 0
+  sought answer ls = Answer both_group worth_of net (take n before.amounts.now) (both_worth standing) starts answer ls
+
+  pub turned : (ls : List (Label Both)) (r : ℕ) (after : List ℕ) (left : List ℤ) → (answer : Outcome) → answer ≡ Settled → 0 < o → Marking before.left.now before.marks.now marks → sought answer ls → SendsAll net standing ls o r (take n before.amounts.now) after before.left.now left
+      → (tables : Tables) → tables.amounts.now ≡ after ++ drop n before.amounts.now → tables.labels.now ≡ ls → tables.left.now ≡ left → Turned net standing o r tables
+  turned ls r after left answer q some m z all tables a b c =
+      let marked : Marks (stations net) before.left.now marks = λ v h. m.1 v (omega (arith, h, ready.marks)) in
+      let long : length after ≡ length net.legs = all.plan_long ∙ ap (λ k. length (take k before.amounts.now)) e ∙ u.one_each in
+      let whole : the_plan net tables.amounts.now ≡ after = rw (a, sym long) (take-append_seam after (drop n before.amounts.now)) in
+      let z' : SettledFor net standing (the_plan net before.amounts.now) starts tables.labels.now = rw b (rw (e, q) at z) in
+      let all' : SendsAll net standing tables.labels.now o r (the_plan net before.amounts.now) after before.left.now tables.left.now = rw (b, c) (rw e at all) in
+      settled net standing (the_plan net before.amounts.now) before.left.now o u marks marked tables r after z' ready.ends_below some all' whole
+
+  pub never_round : (ls : List (Label Both)) (answer : Outcome) → answer ≡ Trip → sought answer ls → ⊥
+  never_round ls answer q t = let t' : Answer both_group worth_of net (the_plan net before.amounts.now) (both_worth standing) starts Trip ls = rw (e, q) at t in no_trip net standing (the_plan net before.amounts.now) before.left.now o u starts ls t'
+
+pub never_short : {net : Net} {tables : Tables} → Prepared net tables → TooShort net tables.labels.now tables.heads.now tables.nexts.now → ⊥
+never_short p (inl a) = omega (arith, a, p.labels)
+never_short p (inr (inl a)) = omega (arith, a, p.heads)
+never_short p (inr (inr a)) = omega (arith, a, p.nexts)

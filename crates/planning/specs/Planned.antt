@@ -1,31 +1,26 @@
 -- What a planning answers and leaves.
---   the_plan     the amounts of the legs, from a table that may be longer
 --   Accepted     a planning that found the best plan
 --   Impossible   a planning that found a cut
 --   Refused      a planning that is refused, by the refusal that it deserves before the search
 --   Planned      what a planning answers and leaves
 --   lengths_of   how long the slices and the tables are
+--   SameSlice    a slice that is lent stays lent, and keeps its length
+--   SameTables   the same of all tables
 --   Finishes     what is answered and written once the best plan is found
---   Solvable     what a planning may rely on once the checks are passed
---   Solves       what a planning that passes the checks answers and leaves
-use Rattle.std.specs.Prelude.{◌≡◌, ℕ, ◌≤◌, min, Bool, List, length, take, drop, ℤ, pos, Some, None, Ok, Err, Option, Result}
+--   TurnsEnd     what all turns come to
+use Rattle.std.specs.Prelude.{◌≡◌, ℕ, ◌≤◌, min, List, length, take, drop, ℤ, Some, None, Ok, Err, Option, Result}
 use Rattle.records.specs.declared.refusal.Refusal.{Refusal}
 use Rattle.records.specs.declared.refusal.Refusal.TheVariants.{NoPlanObeys}
 use Rattle.network.specs.Nets.{Net}
-use Rattle.plans.specs.Plans.{stations, balance_at, EndsBelow, Obeys, cents, difference, CheapestThenNearest}
+use Rattle.plans.specs.Plans.{stations, Obeys, cents, difference, CheapestThenNearest}
 use Rattle.plans.specs.Cuts.{Cut}
-use Rattle.chain_prices.specs.Priced.{Prices}
+use Rattle.prices.specs.Priced.{Prices}
 use Rattle.checks.specs.Checks.{checked}
 use Rattle.checks.specs.declared.lengths.Lengths.{Lengths}
-use Rattle.certificates.specs.Totals.{total_below}
-use Rattle.costs.specs.declared.cents.Cents.{Cents}
-use Rattle.chain_search.specs.declared.chains.Links.{Links}
-use Rattle.chain_search.specs.declared.label.Label.{Label}
-use Rattle.pushing.specs.Sends.{Both}
-use Rattle.planning.specs.States.{Roomy}
-
-abbrev pub the_plan : Net → List ℕ → List ℕ
-the_plan net amounts = take (length net.legs) amounts
+use Rattle.std.specs.Borrow.{MutBor}
+pub use Rattle.planning.specs.States.{the_plan}
+use Rattle.planning.specs.States.{UnderwayIn}
+use Rattle.planning.specs.declared.tables.Tables.{Tables}
 
 -- the plan is the best one, c and d are its cents and its difference from the standing plan, the first n prices are those of
 -- the stations under it, further prices and the cut stay
@@ -62,26 +57,31 @@ pub record Finishes (net : Net) (standing plan : List ℕ) (answer : ℕ × ℕ)
   pub priced : Prices net plan prices'
   pub prices_beyond : drop (stations net) prices' ≡ drop (stations net) prices
 
-abbrev pub Solves : Net → List ℕ → Result (ℕ × ℕ) Refusal → List ℤ → List ℤ → List ℕ → List ℕ → List ℕ → Type 0
-Solves net standing (Ok answer) prices prices' cut cut' plan = Accepted net standing plan answer.0 answer.1 prices prices' cut cut'
-Solves net standing (Err e) prices prices' cut cut' plan = Refused net None e prices prices' cut cut'
-
--- tables as long as they have to be, the amounts exactly as long as there are legs; legs between stations, and balances that sum to 0
-pub record Solvable (net : Net) (prices : List ℤ) (cut : List ℕ) (labels : List (Label Both)) (cent-labels : List (Label Cents)) (heads : List Links) (left : List ℤ) (marks : List Bool) (amounts : List ℕ) (nexts : List Links) : Type 0 where
-  pub room : Roomy net labels heads marks left nexts
-  pub cent_room : stations net ≤ length cent-labels
-  pub price_room : stations net ≤ length prices
-  pub cut_room : stations net ≤ length cut
-  pub one_each : length amounts ≡ length net.legs
-  pub ends_below : EndsBelow net
-  pub even : total_below (stations net) (balance_at net) ≡ pos 0
+-- by whether nothing is over in the end, or a turn that moved nothing has shown a cut
+abbrev pub TurnsEnd : Net → List ℕ → Result Unit Refusal → Tables → List ℕ → List ℕ → Type 0
+TurnsEnd net standing (Ok done) tables cut cut' = UnderwayIn net standing tables 0 × (cut' ≡ cut)
+TurnsEnd net standing (Err e) tables cut cut' = (prices : List ℤ) → Refused net None e prices prices cut cut'
 
 -- the working tables count by the shortest of their kind
-abbrev pub lengths_of : List ℤ → List ℕ → List ℕ → List (Label Both) → List (Label Cents) → List Links → List ℤ → List Bool → List Links → Lengths
-lengths_of prices cut amounts labels cent-labels heads left marks nexts =
+abbrev pub lengths_of : List ℤ → List ℕ → Tables → Lengths
+lengths_of prices cut tables =
     record {
       prices = length prices;
       cut = length cut;
-      station_entries = min (min (min (min (length labels) (length cent-labels)) (length heads)) (length left)) (length marks);
-      leg_entries = min (length amounts) (length nexts);
+      station_entries = min (min (min (min (length tables.labels.now) (length tables.cents.now)) (length tables.heads.now)) (length tables.left.now)) (length tables.marks.now);
+      leg_entries = min (length tables.amounts.now) (length tables.nexts.now);
     }
+
+-- the same slice, with as many entries
+pub record SameSlice {A : Type 0} (before after : MutBor (List A)) : Type 0 where
+  pub name : after.ghost_name ≡ before.ghost_name
+  pub long : length after.now ≡ length before.now
+
+pub record SameTables (before after : Tables) : Type 0 where
+  pub amounts : SameSlice before.amounts after.amounts
+  pub labels : SameSlice before.labels after.labels
+  pub cents : SameSlice before.cents after.cents
+  pub heads : SameSlice before.heads after.heads
+  pub left : SameSlice before.left after.left
+  pub marks : SameSlice before.marks after.marks
+  pub nexts : SameSlice before.nexts after.nexts

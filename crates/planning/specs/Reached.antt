@@ -2,11 +2,10 @@
 --   is_there        whether there is an arrival
 --   reached         whether a station is labelled
 --   reached_below   the reached stations below a number, by rising number
---   AddsReached     a cut after one station was written into it, if it is reached
 --   WritesCut       a cut after the reached stations were written into it
-use Rattle.std.specs.Prelude.{◌≡◌, ℕ, zero, suc, ◌+◌, ◌≤◌, Bool, true, false, cond, List, [], ◌∷◌, ◌++◌, length, take, drop, Some, None, Option, slice_set}
-use Rattle.chain_search.specs.Labels.{label_at}
-use Rattle.chain_search.specs.declared.label.Label.{Label}
+use Rattle.std.specs.Prelude.{◌≡◌, ℕ, zero, suc, ◌≤◌, Bool, true, false, cond, List, [], ◌∷◌, ◌++◌, length, take, drop, Some, None, Option}
+use Rattle.search.specs.Labels.{label_at}
+use Rattle.search.specs.declared.label.Label.{Label}
 
 abbrev pub is_there : {X : Type 0} → Option X → Bool
 is_there None = false
@@ -18,11 +17,6 @@ reached ls v = is_there (label_at ls v).arrival
 abbrev pub reached_below : {C : Type 0} → List (Label C) → ℕ → List ℕ
 reached_below ls zero = []
 reached_below ls (suc v) = reached_below ls v ++ cond (reached ls v) (v ∷ []) []
-
--- by whether it is reached
-abbrev pub AddsReached : Bool → ℕ → ℕ → ℕ → List ℕ → List ℕ → Type 0
-AddsReached true v count count' before after = (count' ≡ count + 1) × (after ≡ slice_set before count v)
-AddsReached false v count count' before after = (count' ≡ count) × (after ≡ before)
 
 -- further entries stay
 pub record WritesCut {C : Type 0} (n : ℕ) (ls : List (Label C)) (count : ℕ) (before after : List ℕ) : Type 0 where

@@ -36,7 +36,7 @@ impl Generator {
             turn.saturating_add(1)
         };
         let capacity = self.below(capacities.max(1));
-        let charge = self.below(charges.max(1)) as u32;
+        let charge = u32::from(self.below(charges.max(1)));
         Leg {
             start,
             end,
@@ -49,8 +49,7 @@ impl Generator {
 
 // Adds bikes to a balance.
 pub(crate) fn add(stations: &mut [Station], station: u16, bikes: i32) {
-    let number = station as usize;
-    if number < stations.len() {
-        stations[number].balance = stations[number].balance.saturating_add(bikes);
+    if let Some(station) = stations.get_mut(usize::from(station)) {
+        station.balance = station.balance.saturating_add(bikes);
     }
 }

@@ -1,5 +1,5 @@
 // Both sides of every limit, and what a refusal leaves.
-use crate::desk::Sizes;
+use crate::lent::Sizes;
 use crate::print;
 use crate::worked::{BALANCES, FROM_1, PAST_1, T, TO_1};
 use records::{Leg, Mark};
@@ -214,85 +214,65 @@ pub(crate) fn balances(rt: &HostRuntime) -> io::Result<()> {
     Ok(())
 }
 
+// A cut that is an entry too short.
+const SHORT: Sizes = Sizes {
+    cut: 2,
+    ..Sizes::THREE
+};
+
+// A leg that may carry too much.
+const WIDE: Leg = Leg {
+    capacity: 501,
+    ..FROM_1
+};
+
+// A leg that may carry too little.
+const NARROW: Leg = Leg {
+    capacity: 3,
+    ..FROM_1
+};
+
+// A leg that leads to no station.
+const ASTRAY: Leg = Leg { end: 3, ..PAST_1 };
+
 // A planning that deserves every refusal, and what is left of them as its faults go one by one.
-pub(crate) fn order(rt: &HostRuntime) -> io::Result<()> {
-    let short = Sizes {
-        cut: 2,
-        ..Sizes::THREE
-    };
-    let narrow = Leg {
-        capacity: 3,
-        ..FROM_1
-    };
-    let wide = Leg {
-        capacity: 501,
-        ..FROM_1
-    };
-    let astray = Leg { end: 3, ..PAST_1 };
-    print::on_table(
-        rt,
-        "all faults",
-        &[TO_1, wide, astray],
-        &[7, -120_001, 120_001],
-        &[],
-        short,
-    )?;
-    print::on_table(
-        rt,
+const FAULTS: [(&str, [Leg; 2], [i32; 3], Sizes); 8] = [
+    ("all faults", [WIDE, ASTRAY], [7, -120_001, 120_001], SHORT),
+    (
         "slices mended",
-        &[TO_1, wide, astray],
-        &[7, -120_001, 120_001],
-        &[],
+        [WIDE, ASTRAY],
+        [7, -120_001, 120_001],
         Sizes::THREE,
-    )?;
-    print::on_table(
-        rt,
+    ),
+    (
         "leg 1 mended",
-        &[TO_1, narrow, astray],
-        &[7, -120_001, 120_001],
-        &[],
+        [NARROW, ASTRAY],
+        [7, -120_001, 120_001],
         Sizes::THREE,
-    )?;
-    print::on_table(
-        rt,
+    ),
+    (
         "legs mended",
-        &[TO_1, narrow, PAST_1],
-        &[7, -120_001, 120_001],
-        &[],
+        [NARROW, PAST_1],
+        [7, -120_001, 120_001],
         Sizes::THREE,
-    )?;
-    print::on_table(
-        rt,
+    ),
+    (
         "station 1 mended",
-        &[TO_1, narrow, PAST_1],
-        &[7, 0, 120_001],
-        &[],
+        [NARROW, PAST_1],
+        [7, 0, 120_001],
         Sizes::THREE,
-    )?;
-    print::on_table(
-        rt,
-        "stations mended",
-        &[TO_1, narrow, PAST_1],
-        &[7, 0, 0],
-        &[],
-        Sizes::THREE,
-    )?;
-    print::on_table(
-        rt,
-        "sum mended",
-        &[TO_1, narrow, PAST_1],
-        &[7, 0, -7],
-        &[],
-        Sizes::THREE,
-    )?;
-    print::on_table(
-        rt,
-        "all mended",
-        &[TO_1, narrow, PAST_1],
-        &[6, 0, -6],
-        &[],
-        Sizes::THREE,
-    )
+    ),
+    ("stations mended", [NARROW, PAST_1], [7, 0, 0], Sizes::THREE),
+    ("sum mended", [NARROW, PAST_1], [7, 0, -7], Sizes::THREE),
+    ("all mended", [NARROW, PAST_1], [6, 0, -6], Sizes::THREE),
+];
+
+// The faults, one after another.
+pub(crate) fn order(rt: &HostRuntime) -> io::Result<()> {
+    for (name, [one, two], balances, sizes) in FAULTS {
+        print::on_table(rt, name, &[TO_1, one, two], &balances, &[], sizes)?;
+    }
+    Ok(())
 }
 
 // Legs that together carry the highest balance, and one bike less.

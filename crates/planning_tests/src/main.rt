@@ -2,8 +2,8 @@
 // The lines are compared with the file `stdout`.
 #![tactic(auto)]
 
-mod desk;
 mod generator;
+mod lent;
 mod limits;
 mod print;
 mod random;

@@ -1,5 +1,5 @@
 // Plans, and prints what the planning answers and leaves.
-use crate::desk::{Desk, Sizes};
+use crate::lent::{Lent, Sizes};
 use network::Network;
 use records::{Leg, Refusal, Station};
 use std::io;
@@ -17,15 +17,11 @@ fn answer(
             println!(rt; "{name}: {cents} cents, difference {difference}")?;
             println!(rt; "  amounts {plan:?}")
         }
-        Err(refusal) => {
-            let number = refusal.number();
-            let place = refusal.place();
-            println!(rt; "{name}: refused {number} {place}")
-        }
+        Err(refusal) => println!(rt; "{name}: {refusal}"),
     }
 }
 
-// Plans on a network at a desk of given sizes.
+// Plans on a network, with slices and tables of given sizes.
 pub(crate) fn planning<N: Network>(
     rt: &HostRuntime,
     name: &str,
@@ -33,11 +29,11 @@ pub(crate) fn planning<N: Network>(
     standing: &[u16],
     sizes: Sizes,
 ) -> io::Result<()> {
-    let mut desk = Desk::new(rt.alloc(), sizes)?;
-    let found = desk.plan(net, standing);
-    answer(rt, name, found, desk.planned(net.legs()))?;
-    let prices = desk.prices.as_slice();
-    let cut = desk.cut.as_slice();
+    let mut lent = Lent::new(rt.alloc(), sizes)?;
+    let found = lent.plan(net, standing);
+    answer(rt, name, found, lent.planned(net.legs()))?;
+    let prices = lent.prices.as_slice();
+    let cut = lent.cut.as_slice();
     println!(rt; "  prices {prices:?}")?;
     println!(rt; "  cut {cut:?}")
 }

@@ -1,6 +1,6 @@
 // Tiny networks drawn at random, each planned and held against all plans that there are.
-use crate::desk::{Desk, Sizes};
 use crate::generator::{Generator, add};
+use crate::lent::{Lent, Sizes};
 use crate::rules;
 use crate::verdicts::{is_sound, names_cut, sum_of};
 use network::Network;
@@ -24,7 +24,7 @@ struct Drawn {
 }
 
 // What came of all networks.
-#[derive(Drop)]
+#[derive(Default, Drop)]
 struct Tally {
     planned: usize,
     refused: usize,
@@ -38,12 +38,12 @@ struct Tally {
 // which may be more than the legs carry.
 fn draw(heap: Global, generator: &mut Generator) -> Result<Drawn, AllocError> {
     let count = 2 + generator.below(3);
-    let mut stations = vec![in heap; Station::CLEARED; count as usize]?;
+    let mut stations = vec![in heap; Station::default(); usize::from(count)]?;
     let mut legs = Vec::new(heap);
     let mut standing = Vec::new(heap);
     for _ in 0..1 + generator.below(5) {
         let mut leg = generator.leg(count, 3, 4);
-        let bikes = generator.below(3).min(generator.below(3)) as i32;
+        let bikes = i32::from(generator.below(3).min(generator.below(3)));
         add(stations.as_mut_slice(), leg.start, bikes);
         add(stations.as_mut_slice(), leg.end, -bikes);
         if generator.below(8) == 0 {
@@ -74,64 +74,38 @@ fn plan_of(number: u16) -> [u16; 5] {
 
 // The least cents and, with them, the least difference of a plan that obeys.
 fn best<N: Network>(net: &N, standing: &[u16]) -> Option<(u64, u64)> {
-    let mut least = None;
-    for number in 0..PLANS {
-        let plan = plan_of(number);
-        if rules::obeys(net, &plan) {
-            let found = rules::weigh(net, standing, &plan);
-            least = Some(lesser(least, found));
-        }
-    }
-    least
-}
-
-// The lesser of what was found before, if anything was, and what is found now.
-fn lesser(before: Option<(u64, u64)>, now: (u64, u64)) -> (u64, u64) {
-    let Some(least) = before else {
-        return now;
-    };
-    if now.0 < least.0 || now.0 == least.0 && now.1 < least.1 {
-        now
-    } else {
-        least
-    }
+    (0..PLANS)
+        .map(plan_of)
+        .filter(|plan| rules::obeys(net, plan))
+        .map(|plan| rules::weigh(net, standing, &plan))
+        .min()
 }
 
 impl Tally {
-    // Nothing so far.
-    const NONE: Tally = Tally {
-        planned: 0,
-        refused: 0,
-        agreed: 0,
-        cents: 0,
-        difference: 0,
-        prices: 0,
-    };
-
     // Enters one planning, and says whether it agrees with all plans that there are.
     fn enter<N: Network>(
         &mut self,
         net: &N,
         standing: &[u16],
-        desk: &Desk,
+        lent: &Lent,
         answer: Result<(u64, u64), Refusal>,
     ) -> bool {
         let agrees = match (answer, best(net, standing)) {
-            (Ok(weight), Some(least)) => weight.0 == least.0
-                && weight.1 == least.1
-                && is_sound(net, standing, desk, weight),
-            (Err(refusal), None) => names_cut(net, desk, refusal),
+            (Ok(weight), Some(least)) => {
+                weight == least && is_sound(net, standing, lent, weight)
+            }
+            (Err(refusal), None) => names_cut(net, lent, refusal),
             _ => false,
         };
-        if let Ok((cents, difference)) = answer {
-            self.planned = self.planned.saturating_add(1);
-            self.cents = self.cents.saturating_add(cents);
-            self.difference = self.difference.saturating_add(difference);
-            self.prices = self
-                .prices
-                .saturating_add(sum_of(desk.prices.as_slice(), net.stations()));
-        } else {
-            self.refused = self.refused.saturating_add(1);
+        match answer {
+            Ok((cents, difference)) => {
+                let prices = sum_of(lent.prices.as_slice(), net.stations());
+                self.planned = self.planned.saturating_add(1);
+                self.cents = self.cents.saturating_add(cents);
+                self.difference = self.difference.saturating_add(difference);
+                self.prices = self.prices.saturating_add(prices);
+            }
+            Err(_) => self.refused = self.refused.saturating_add(1),
         }
         if agrees {
             self.agreed = self.agreed.saturating_add(1);
@@ -143,8 +117,8 @@ impl Tally {
 // Draws and plans, and prints the sums; a network on which planning and all plans disagree is named.
 pub(crate) fn all(rt: &HostRuntime) -> io::Result<()> {
     let mut generator = Generator::new(1);
-    let mut desk = Desk::new(rt.alloc(), Sizes::ALL)?;
-    let mut tally = Tally::NONE;
+    let mut lent = Lent::new(rt.alloc(), Sizes::ALL)?;
+    let mut tally = Tally::default();
     for number in 0..NETWORKS {
         let Drawn {
             mut stations,
@@ -155,19 +129,17 @@ pub(crate) fn all(rt: &HostRuntime) -> io::Result<()> {
             legs: legs.as_mut_slice(),
             stations: stations.as_mut_slice(),
         };
-        let answer = desk.plan(&table, standing.as_slice());
-        if !tally.enter(&table, standing.as_slice(), &desk, answer) {
+        let answer = lent.plan(&table, standing.as_slice());
+        if !tally.enter(&table, standing.as_slice(), &lent, answer) {
             println!(rt; "random network {number} disagrees")?;
         }
     }
-    let Tally {
-        planned,
-        refused,
-        agreed,
-        cents,
-        difference,
-        prices,
-    } = tally;
-    println!(rt; "random networks: {planned} with a plan, {refused} without, {agreed} agree")?;
-    println!(rt; "  {cents} cents, difference {difference}, prices {prices} in all")
+    println!(rt;
+        "random networks: {} with a plan, {} without, {} agree",
+        tally.planned, tally.refused, tally.agreed
+    )?;
+    println!(rt;
+        "  {} cents, difference {}, prices {} in all",
+        tally.cents, tally.difference, tally.prices
+    )
 }

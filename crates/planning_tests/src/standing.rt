@@ -1,5 +1,5 @@
 // Standing plans: amounts that are missing count as 0, amounts beyond the last leg do not count.
-use crate::desk::Sizes;
+use crate::lent::Sizes;
 use crate::print;
 use crate::worked::{BALANCES, T, U};
 use std::io;

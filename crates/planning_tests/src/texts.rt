@@ -1,6 +1,6 @@
 // Large networks, drawn from seeds and handed on as texts. What they cost comes from another solver.
-use crate::desk::{Desk, Sizes};
 use crate::generator::{Generator, add};
+use crate::lent::{Lent, Sizes};
 use crate::verdicts::{is_sound, names_cut, sum_of};
 use network::Network;
 use records::{Leg, Refusal, Station};
@@ -118,13 +118,9 @@ const RECIPES: [Recipe; 10] = [
 
 // Whether bikes may be added to a balance, which a text keeps from -500 to 500.
 fn takes(stations: &[Station], station: u16, bikes: i32) -> bool {
-    let balance = stations
-        .get(station as usize)
-        .copied()
-        .unwrap_or(Station::CLEARED)
-        .balance;
-    let sum = balance.saturating_add(bikes);
-    sum >= -500 && sum <= 500
+    stations.get(usize::from(station)).is_some_and(|station| (-500..=500).contains(
+        &station.balance.saturating_add(bikes),
+    ))
 }
 
 // Moves bikes over a leg in the balances, where they allow it.
@@ -138,7 +134,7 @@ fn carry(stations: &mut [Station], start: u16, end: u16, bikes: i32) {
 // The text of a network that is drawn by a recipe.
 fn text_of(heap: Global, recipe: Recipe, seed: u64) -> Result<String, AllocError> {
     let mut generator = Generator::new(seed);
-    let mut stations = vec![in heap; Station::CLEARED; recipe.stations as usize]?;
+    let mut stations = vec![in heap; Station::default(); usize::from(recipe.stations)]?;
     let mut legs = Vec::new(heap);
     for _ in 0..recipe.legs {
         let leg = generator.leg(recipe.stations, recipe.capacities, recipe.charges);
@@ -147,7 +143,7 @@ fn text_of(heap: Global, recipe: Recipe, seed: u64) -> Result<String, AllocError
                 stations.as_mut_slice(),
                 leg.start,
                 leg.end,
-                leg.capacity as i32,
+                i32::from(leg.capacity),
             );
         }
         legs.push(leg)?;
@@ -161,19 +157,19 @@ fn planned<N: Network>(
     rt: &HostRuntime,
     name: &str,
     net: &N,
-    desk: &Desk,
+    lent: &Lent,
     answer: Result<(u64, u64), Refusal>,
 ) -> io::Result<()> {
     match answer {
         Ok((cents, difference)) => {
-            let sound = is_sound(net, &[], desk, (cents, difference));
-            let prices = sum_of(desk.prices.as_slice(), net.stations());
+            let sound = is_sound(net, &[], lent, (cents, difference));
+            let prices = sum_of(lent.prices.as_slice(), net.stations());
             println!(rt; "text {name} cents {cents}")?;
             println!(rt; "  difference {difference}, prices {prices} in all, sound {sound}")
         }
         Err(refusal) => {
             let number = refusal.number();
-            let cut = names_cut(net, desk, refusal);
+            let cut = names_cut(net, lent, refusal);
             println!(rt; "text {name} refused {number}")?;
             println!(rt; "  with a cut {cut}")
         }
@@ -181,13 +177,13 @@ fn planned<N: Network>(
 }
 
 // Reads a text and plans.
-fn read(rt: &HostRuntime, name: &str, text: &[u8], desk: &mut Desk) -> io::Result<()> {
-    let mut legs = vec![in rt.alloc(); Leg::CLEARED; 3000]?;
-    let mut stations = vec![in rt.alloc(); Station::CLEARED; 240]?;
+fn read(rt: &HostRuntime, name: &str, text: &[u8], lent: &mut Lent) -> io::Result<()> {
+    let mut legs = vec![in rt.alloc(); Leg::default(); 3000]?;
+    let mut stations = vec![in rt.alloc(); Station::default(); 240]?;
     match read_table(text, legs.as_mut_slice(), stations.as_mut_slice()) {
         Ok(table) => {
-            let answer = desk.plan(&table, &[]);
-            planned(rt, name, &table, desk, answer)
+            let answer = lent.plan(&table, &[]);
+            planned(rt, name, &table, lent, answer)
         }
         Err(refusal) => {
             let number = refusal.number();
@@ -198,10 +194,10 @@ fn read(rt: &HostRuntime, name: &str, text: &[u8], desk: &mut Desk) -> io::Resul
 
 // Plans on every text.
 pub(crate) fn all(rt: &HostRuntime) -> io::Result<()> {
-    let mut desk = Desk::new(rt.alloc(), Sizes::ALL)?;
+    let mut lent = Lent::new(rt.alloc(), Sizes::ALL)?;
     for (number, recipe) in RECIPES.iter().enumerate() {
         let text = text_of(rt.alloc(), *recipe, number as u64)?;
-        read(rt, recipe.name, text.as_bytes(), &mut desk)?;
+        read(rt, recipe.name, text.as_bytes(), &mut lent)?;
     }
     Ok(())
 }

@@ -1,5 +1,5 @@
 // Whether what a planning left goes by the rules.
-use crate::desk::Desk;
+use crate::lent::Lent;
 use crate::rules;
 use network::Network;
 use records::Refusal;
@@ -8,33 +8,30 @@ use records::Refusal;
 pub(crate) fn is_sound<N: Network>(
     net: &N,
     standing: &[u16],
-    desk: &Desk,
+    lent: &Lent,
     weight: (u64, u64),
 ) -> bool {
-    let plan = desk.planned(net.legs());
-    let (cents, difference) = rules::weigh(net, standing, plan);
+    let plan = lent.planned(net.legs());
     rules::obeys(net, plan)
-        && cents == weight.0
-        && difference == weight.1
-        && rules::are_prices(net, plan, desk.prices.as_slice())
+        && rules::weigh(net, standing, plan) == weight
+        && rules::are_prices(net, plan, lent.prices.as_slice())
 }
 
 // Whether a refused planning named a cut.
-pub(crate) fn names_cut<N: Network>(net: &N, desk: &Desk, refusal: Refusal) -> bool {
+pub(crate) fn names_cut<N: Network>(net: &N, lent: &Lent, refusal: Refusal) -> bool {
     match refusal {
-        Refusal::NoPlanObeys { cut } => {
-            let count = cut.min(desk.cut.len());
-            rules::is_cut(net, &desk.cut[0..count])
-        }
+        Refusal::NoPlanObeys { cut } => lent
+            .cut
+            .get(..cut)
+            .is_some_and(|stations| rules::is_cut(net, stations)),
         _ => false,
     }
 }
 
 // The sum of the first prices.
 pub(crate) fn sum_of(prices: &[i64], stations: usize) -> i64 {
-    let mut sum = 0i64;
-    for price in prices.iter().take(stations) {
-        sum = sum.saturating_add(*price);
-    }
-    sum
+    prices
+        .iter()
+        .take(stations)
+        .fold(0i64, |sum, price| sum.saturating_add(*price))
 }

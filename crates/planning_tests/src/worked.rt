@@ -1,5 +1,5 @@
 // Worked examples: three stations, with 4 bikes to bring from the first to the last.
-use crate::desk::Sizes;
+use crate::lent::Sizes;
 use crate::print;
 use records::{Leg, Mark, Station};
 use std::io;

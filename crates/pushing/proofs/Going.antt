@@ -1,5 +1,7 @@
 -- Bikes that go along last steps, one by one.
 use Rattle.std.proofs.Common.{◌≡◌, ℕ, ◌+◌, ◌-◌, ◌<◌, ◌≤◌, min, Bool, List, length, take, drop, set, ℤ, Some, None, Option, sym, refl, ap, ◌∙◌, subst, inl, inr, arith, length-set}
+use Rattle.std.proofs.Math.Seq.{take-set-lt}
+use Rattle.std.proofs.lemmas.Option.{none-some, same_Some}
 use Rattle.std.proofs.lemmas.List.{drop-set-lt, get_or-take}
 use Rattle.network.specs.Nets.{Net}
 use Rattle.plans.specs.Plans.{stations, leg_at, amount, in_force, Fits}
@@ -7,14 +9,13 @@ use Rattle.plans.specs.Residuals.{both_group, Certifies}
 use Rattle.certificates.specs.Pushes.{Sent}
 use Rattle.certificates.proofs.Kept.{rooms}
 use Rattle.certificates.proofs.Moved.{unsent, up_to_there}
-use Rattle.chain_search.specs.declared.label.Last.{Last}
-use Rattle.chain_search.specs.declared.label.Last.TheVariants.{Start, Forth, Back}
-use Rattle.chain_search.specs.declared.label.Arrival.{Arrival}
-use Rattle.chain_search.specs.declared.label.Label.{Label}
-use Rattle.chain_search.proofs.Optional.{none_some, some_same}
+use Rattle.search.specs.declared.label.Last.{Last}
+use Rattle.search.specs.declared.label.Last.TheVariants.{Start, Forth, Back}
+use Rattle.search.specs.declared.label.Arrival.{Arrival}
+use Rattle.search.specs.declared.label.Label.{Label}
 use Rattle.pushing.specs.Sends.{Both, Known, SettledFor, planned, Agrees}
 use Rattle.pushing.specs.Routes.{Leads, room_over, toll, shifted, Link, Route, begins, goes, Steps, StepsInto, Along}
-use Rattle.pushing.proofs.Routing.{from_below, ordered, Ordered, route_below, step_sent, step_kept, rest_at, take_set_in}
+use Rattle.pushing.proofs.Routing.{from_below, ordered, Ordered, route_below, step_sent, step_kept, rest_at}
 
 -- ---- one step in a table
 kept_over : (net : Net) (b : ℕ) (l : Last) (r : Option ℕ) (plan after : List ℕ) → Steps net b l r plan after → (length after ≡ length plan) × (drop (length net.legs) after ≡ drop (length net.legs) plan)
@@ -38,25 +39,25 @@ shown_over net standing b (Forth k) u v r plan after f p h (inl s) =
     let g : amount (planned net plan) k ≡ amount plan k = get_or-take m plan k 0 s.0 in
     let w : amount (planned net plan) k + b ≤ in_force (leg_at net k) = ((rooms net standing (planned net plan) k f p.0).2 b h).within in
     let e : min (amount plan k + b) (in_force (leg_at net k)) ≡ amount (planned net plan) k + b = omega arith in
-    (s.1 ∙ ap Some p.1, ap (take m) s.2 ∙ take_set_in m plan k _ ∙ ap (set (planned net plan) k) e)
+    (s.1 ∙ ap Some p.1, ap (take m) s.2 ∙ take-set-lt m plan k _ s.0 ∙ ap (set (planned net plan) k) e)
 shown_over net standing b (Back k) u v r plan after f p h (inr s) = absurd (omega (arith, s.0, p.0.there))
 shown_over net standing b (Back k) u v r plan after f p h (inl s) =
     let m = length net.legs in
     let g : amount plan k ≡ amount (planned net plan) k = sym (get_or-take m plan k 0 s.0) in
-    (s.1 ∙ ap Some p.1, ap (take m) s.2 ∙ take_set_in m plan k _ ∙ ap (λ y. set (planned net plan) k (y - b)) g)
+    (s.1 ∙ ap Some p.1, ap (take m) s.2 ∙ take-set-lt m plan k _ s.0 ∙ ap (λ y. set (planned net plan) k (y - b)) g)
 
 shown_into : (net : Net) (standing : List ℕ) (ls : List (Label Both)) (b u v : ℕ) (x : Arrival Both) (r : Option ℕ) (plan after : List ℕ) → Fits net (planned net plan) → Known ls v x → Link net standing (planned net plan) ls b u v x → StepsInto net ls v b r plan after
     → (r ≡ Some u) × (planned net after ≡ shifted x.last b (planned net plan))
 shown_into net standing ls b u v x r plan after f k l (inl s) =
-    shown_over net standing b x.last u v r plan after f l.leads l.room (subst (λ (y : Arrival Both). Steps net b y.last r plan after) (some_same (sym s.1 ∙ k)) s.2)
-shown_into net standing ls b u v x r plan after f k l (inr s) = absurd (none_some x (sym s.0 ∙ k))
+    shown_over net standing b x.last u v r plan after f l.leads l.room (subst (λ (y : Arrival Both). Steps net b y.last r plan after) (same_Some _ _ (sym s.1 ∙ k)) s.2)
+shown_into net standing ls b u v x r plan after f k l (inr s) = absurd (none-some x (sym s.0 ∙ k))
 
 -- where a walk starts nothing is taken
 start_over : (net : Net) (b : ℕ) (l : Last) (r : Option ℕ) (plan after : List ℕ) → l ≡ Start → Steps net b l r plan after → (r ≡ None) × (after ≡ plan)
 start_over net b l r plan after e s = subst (λ m. Steps net b m r plan after) e s
 
 start_into : (net : Net) (ls : List (Label Both)) (b v : ℕ) (x : Arrival Both) (r : Option ℕ) (plan after : List ℕ) → Known ls v x → x.last ≡ Start → StepsInto net ls v b r plan after → (r ≡ None) × (after ≡ plan)
-start_into net ls b v x r plan after k e (inl s) = start_over net b s.0.last r plan after (ap (λ (y : Arrival Both). y.last) (some_same (sym s.1 ∙ k)) ∙ e) s.2
+start_into net ls b v x r plan after k e (inl s) = start_over net b s.0.last r plan after (ap (λ (y : Arrival Both). y.last) (same_Some _ _ (sym s.1 ∙ k)) ∙ e) s.2
 start_into net ls b v x r plan after k e (inr s) = (s.1, s.2)
 
 -- ---- step by step
@@ -77,10 +78,10 @@ pub record Going (net : Net) (ls : List (Label Both)) (b target i at : ℕ) (pla
 middle_more : {net : Net} {standing : List ℕ} {ls : List (Label Both)} {b at s : ℕ} (since : ℕ → ℕ) (target i u : ℕ) (plan : List ℕ) (now after : List ℕ) → Ordered net ls since
     → Sent net plan (planned net now) b at target → since at + i ≤ since target → ((π : ℕ → ℤ × ℤ) → Agrees net ls π → Certifies net standing plan π → Certifies net standing (planned net now) π)
     → Route net standing (planned net now) ls b at s → StepsInto net ls at b (Some u) now after → Middle net standing ls since b target s (i + 1) u plan (planned net after)
-middle_more {net} {standing} {ls} {b} since target i u plan now after o t h c (begins {v = at} x l k e) p = absurd (none_some u (sym (start_into net ls b at x (Some u) now after k e p).0))
+middle_more {net} {standing} {ls} {b} since target i u plan now after o t h c (begins {v = at} x l k e) p = absurd (none-some u (sym (start_into net ls b at x (Some u) now after k e p).0))
 middle_more {net} {standing} {ls} {b} since target i u plan now after o t h c (goes {u = w} {v = at} {s = s} x l k link r) p =
     let q = shown_into net standing ls b w at x (Some u) now after t.fits k link p in
-    let e : w ≡ u = sym (some_same q.0) in
+    let e : w ≡ u = sym (same_Some _ _ q.0) in
     let d = o.back_from w at x l k link.leads in
     let m : Middle net standing ls since b target s (i + 1) w plan (shifted x.last b (planned net now)) =
     record {
@@ -98,7 +99,7 @@ middle_more {net} {standing} {ls} {b} since target i u plan now after o t h c (g
 middle_stop : {net : Net} {standing : List ℕ} {ls : List (Label Both)} {b at s : ℕ} (target : ℕ) (plan now after : List ℕ) → Sent net plan (planned net now) b at target → Route net standing (planned net now) ls b at s → StepsInto net ls at b None now after
     → (at ≡ s) × (after ≡ now)
 middle_stop {net} {standing} {ls} {b} target plan now after t (begins {v = at} x l k e) p = (refl, (start_into net ls b at x None now after k e p).1)
-middle_stop {net} {standing} {ls} {b} target plan now after t (goes {u = w} {v = at} {s = s} x l k link r) p = absurd (none_some w (shown_into net standing ls b w at x None now after t.fits k link p).0)
+middle_stop {net} {standing} {ls} {b} target plan now after t (goes {u = w} {v = at} {s = s} x l k link r) p = absurd (none-some w (shown_into net standing ls b w at x None now after t.fits k link p).0)
 
 module _ (net : Net) (ls : List (Label Both)) (b target : ℕ) (plan : List ℕ) where
   pub going_none : Going net ls b target 0 target plan plan

@@ -5,15 +5,15 @@ use Rattle.network.specs.Nets.{Net}
 use Rattle.plans.specs.Plans.{stations, leg_at, amount, in_force}
 use Rattle.plans.specs.Residuals.{forth, back, both_group}
 use Rattle.steps.specs.Fees.{paid, both_worth}
-use Rattle.chain_search.specs.Searches.{Over}
-use Rattle.chain_search.specs.declared.label.Last.{Last}
-use Rattle.chain_search.specs.declared.label.Last.TheVariants.{Start, Forth, Back}
-use Rattle.chain_search.specs.declared.label.Arrival.{Arrival}
-use Rattle.chain_search.specs.declared.label.Label.{Label}
+use Rattle.search.specs.Searches.{Over}
+use Rattle.search.specs.declared.label.Last.{Last}
+use Rattle.search.specs.declared.label.Last.TheVariants.{Start, Forth, Back}
+use Rattle.search.specs.declared.label.Arrival.{Arrival}
+use Rattle.search.specs.declared.label.Label.{Label}
 use Rattle.steps.proofs.Paying.{paid_both}
 use Rattle.pushing.specs.Sends.{Both, Known, SettledFor}
 use Rattle.pushing.specs.Routes.{room_over, toll, Route, begins, goes, Sees, Finds}
-use Rattle.pushing.specs.declared.looks.Sight.TheVariants.{Lost, Begun, Came}
+use Rattle.pushing.specs.declared.looks.Sight.TheVariants.{Begun, Came}
 use Rattle.pushing.proofs.Routing.{leads_of, from_below, leg_of, leg_there, same_over, ordered, link_less}
 
 -- ---- a step of the plan that labels are of
@@ -36,10 +36,7 @@ pub record Measuring (net : Net) (standing plan : List ℕ) (ls : List (Label Bo
       → (at < stations net) × ((y : Arrival Both) × Known ls at y) × (z.since at + i ≤ z.since target)
 
 module _ (net : Net) (standing plan : List ℕ) (ls : List (Label Both)) (target : ℕ) where
-  pub measuring_none : (room : ℕ) → 0 < room → Measuring net standing plan ls target 0 target room
-  measuring_none room h = record { some = h; extends = λ b s l r. r; known = λ old f x z below k. (below, (x, k), omega arith) }
-
-  pub measuring_more : (i at room u less : ℕ) → Measuring net standing plan ls target i at room → Sees net standing plan ls at (Came u less) → Measuring net standing plan ls target (i + 1) u (min room less)
+  pub measuring_more : (i at room u less : ℕ) → Measuring net standing plan ls target i at room → Sees net standing plan ls at (Some (Came u less)) → Measuring net standing plan ls target (i + 1) u (min room less)
   measuring_more i at room u less m s =
       let x = s.2.0 in
       let link = s.2.2 in
@@ -52,10 +49,10 @@ module _ (net : Net) (standing plan : List ℕ) (ls : List (Label Both)) (target
             (from_below net x.last u at link.leads, (link.before, link.known), omega (arith, q.2, d));
       }
 
-  pub measured : (i at room : ℕ) → Measuring net standing plan ls target i at room → Sees net standing plan ls at Begun → Finds net standing plan ls target (Some (record { start = at; room = room }))
+  pub measured : (i at room : ℕ) → Measuring net standing plan ls target i at room → Sees net standing plan ls at (Some Begun) → Finds net standing plan ls target (Some (record { start = at; room = room }))
   measured i at room m s = (m.some, m.extends room at (omega arith) (begins s.1.0 s.0 s.1.1 s.1.2))
 
-  pub lost : (i at room : ℕ) → Measuring net standing plan ls target i at room → Sees net standing plan ls at Lost → Finds net standing plan ls target None
+  pub lost : (i at room : ℕ) → Measuring net standing plan ls target i at room → Sees net standing plan ls at None → Finds net standing plan ls target None
   lost i at room m s old f x z same below k =
       let q = m.known old f x z below k in
       let y = q.1.0 in

@@ -1,5 +1,5 @@
 -- Routes of last steps, and what bikes that go along one step leave of them.
-use Rattle.std.proofs.Common.{◌≡◌, ℕ, zero, suc, ◌+◌, ◌-◌, ◌<◌, ◌≤◌, min, Bool, cond, ltb, leb, ◌≢◌, List, [], ◌∷◌, length, take, set, ℤ, pos, negsuc, sym, refl, ap, ◌∙◌, subst, inl, inr, arith, get_or-set_other}
+use Rattle.std.proofs.Common.{◌≡◌, ℕ, ◌+◌, ◌-◌, ◌<◌, ◌≤◌, min, Bool, cond, ltb, leb, ◌≢◌, List, length, ℤ, pos, negsuc, sym, refl, ap, ◌∙◌, subst, inl, inr, arith, get_or-set_other}
 use Rattle.network.specs.Nets.{Net}
 use Rattle.plans.specs.Plans.{stations, leg_at, amount, in_force, Fits}
 use Rattle.plans.specs.Residuals.{Direction, forth, back, step_cents, both_group, Certifies}
@@ -7,11 +7,11 @@ use Rattle.certificates.specs.Pushes.{more, fewer, Sent}
 use Rattle.certificates.proofs.Kept.{forth_kept, back_kept, rooms}
 use Rattle.certificates.proofs.Moved.{forth_sent, back_sent}
 use Rattle.steps.specs.Fees.{paid, both_worth}
-use Rattle.chain_search.specs.Searches.{Over, From}
-use Rattle.chain_search.specs.declared.label.Last.{Last}
-use Rattle.chain_search.specs.declared.label.Last.TheVariants.{Start, Forth, Back}
-use Rattle.chain_search.specs.declared.label.Arrival.{Arrival}
-use Rattle.chain_search.specs.declared.label.Label.{Label}
+use Rattle.search.specs.Searches.{Over, From}
+use Rattle.search.specs.declared.label.Last.{Last}
+use Rattle.search.specs.declared.label.Last.TheVariants.{Start, Forth, Back}
+use Rattle.search.specs.declared.label.Arrival.{Arrival}
+use Rattle.search.specs.declared.label.Label.{Label}
 use Rattle.pushing.specs.Sends.{Both, Known, SettledFor}
 use Rattle.pushing.specs.Routes.{Leads, room_over, toll, shifted, Link, Route, begins, goes}
 use Rattle.pushing.proofs.Seeing.{one_from, no_start}
@@ -137,10 +137,3 @@ rest_at {net} {standing} {plan} {ls} {b} since o l u v s p h r =
     let d = o.back_from t w x below k q in
     (omega (arith, d, i), shifted_other l b plan (leg_of x.last) (λ e. other_leg net since l x.last u v t w p q d i e)))
     r h
-
--- ---- the plan in a table
-pub take_set_in : {X : Type 0} (n : ℕ) (xs : List X) (k : ℕ) (y : X) → take n (set xs k y) ≡ set (take n xs) k y
-take_set_in zero xs k y = refl
-take_set_in (suc n) [] k y = refl
-take_set_in (suc n) (x ∷ xs) zero y = refl
-take_set_in (suc n) (x ∷ xs) (suc k) y = ap (λ t. x ∷ t) (take_set_in n xs k y)

@@ -1,8 +1,9 @@
 -- What a sending does to a plan and to what is left over.
-use Rattle.std.proofs.Common.{◌≡◌, ℕ, ◌<◌, ◌≤◌, Bool, ◌≢◌, List, length, get_or, drop, set, ℤ, pos, ◌+ℤ◌, ◌-ℤ◌, ◌≤ℤ◌, ◌<ℤ◌, None, sym, refl, ap, ◌∙◌, subst, inl, inr, arith, length-set, get_or-set_other, get_or-set_same, w64, SFits, to_z, of_z}
+use Rattle.std.proofs.Common.{◌≡◌, ℕ, zero, suc, negsuc, neg_ℤ, ◌<◌, ◌≤◌, Bool, ◌≢◌, List, length, get_or, drop, set, ℤ, pos, ◌+ℤ◌, ◌-ℤ◌, ◌≤ℤ◌, ◌<ℤ◌, None, sym, refl, ap, ◌∙◌, subst, inl, inr, arith, length-set, get_or-set_other, get_or-set_same, w64, SFits, to_z, of_z}
 use native.Mathlib.Decide.{ℕ_discrete}
 use borrow.Author.Differences.{ints}
 use Rattle.std.proofs.lemmas.List.{drop-set-lt, get_or_past, get_or-take}
+use Rattle.std.specs.Int.{saturate_signed}
 use Rattle.std.proofs.lemmas.Int.{to_z-of_z}
 use Rattle.std.proofs.lemmas.Bool.{cases_lt}
 use Rattle.network.specs.Nets.{Net}
@@ -10,7 +11,7 @@ use Rattle.plans.specs.Plans.{stations}
 use Rattle.plans.specs.Cuts.{left_over}
 use Rattle.certificates.specs.Pushes
 use Rattle.certificates.proofs.Moved.{lowers_over}
-use Rattle.chain_search.specs.declared.label.Label.{Label}
+use Rattle.search.specs.declared.label.Label.{Label}
 use Rattle.pushing.specs.Sends.{Both, SettledFor, planned, Tracks, Sent, Ready, Sends}
 use Rattle.pushing.specs.Routes.{Route, Finds, Along}
 use Rattle.pushing.proofs.Routing.{leg_of, leg_there, route_below, route_start, start_below, route_less, route_at}
@@ -27,6 +28,52 @@ lack_there left t b h p = not_past left t (λ e. omega (arith, ints, e, p))
 
 pub apart_ends : (left : List ℤ) (s t b : ℕ) → 0 < b → pos b ≤ℤ get_or left s (pos 0) → (get_or left t (pos 0) +ℤ pos b) ≤ℤ pos 0 → s ≡ t → ⊥
 apart_ends left s t b h p q e = let f : get_or left s (pos 0) ≡ get_or left t (pos 0) = ap (λ w. get_or left w (pos 0)) e in omega (arith, ints, f, p, q)
+
+-- ---- the bikes that the start has over and the target lacks
+-- a number of 64 bits with sign is what its bits say
+shown_at : (x y : ℤ) → SFits w64 x → x ≡ y → to_z w64 (of_z w64 x) ≡ y
+shown_at x y f e = to_z-of_z w64 x f ∙ e
+
+-- what the negated left over gives is what the left over lacks
+lacked : (y : ℤ) (b : ℕ) → pos b ≤ℤ saturate_signed w64 (neg_ℤ y) → (y +ℤ pos b) ≤ℤ pos 0
+lacked (pos zero) b h = omega (arith, ints)
+lacked (pos (suc a)) b h = omega (arith, ints)
+lacked (negsuc a) b h = omega (arith, ints)
+
+lacking : (y : ℤ) → y <ℤ pos 0 → pos 0 <ℤ saturate_signed w64 (neg_ℤ y)
+lacking (pos a) h = omega (arith, ints)
+lacking (negsuc a) h = omega (arith, ints)
+
+-- what a spare is, of a left over x that is passed in 64 bits
+pub record Spares (most : ℕ) (x : ℤ) (b : ℕ) : Type 0 where
+  pub within : b ≤ most
+  pub has : 0 < b → pos b ≤ℤ x
+  pub some : 0 < most → pos 0 <ℤ x → 0 < b
+
+spares : (most b : ℕ) (r x : ℤ) → r ≡ x → SFits w64 r → (b ≤ most) × (0 < b → pos b ≤ℤ to_z w64 (of_z w64 r)) × (0 < most → pos 0 <ℤ to_z w64 (of_z w64 r) → 0 < b) → Spares most x b
+spares most b r x e f h =
+    let t = shown_at r x f e in
+    record { within = h.0; has = λ p. subst (λ z. pos b ≤ℤ z) t (h.1 p); some = λ p q. h.2 p (subst (λ z. pos 0 <ℤ z) (sym t) q) }
+
+-- mid of the start's x within the room, and b of those that the target lacks by y within mid
+pub record Spends (room mid b : ℕ) (x y : ℤ) : Type 0 where
+  pub of_start : Spares room x mid
+  pub of_target : Spares mid (saturate_signed w64 (neg_ℤ y)) b
+
+pub spends : (room mid b : ℕ) (r s n x y : ℤ) → SFits w64 r → SFits w64 s → SFits w64 n → r ≡ x → s ≡ y → n ≡ saturate_signed w64 (neg_ℤ (to_z w64 (of_z w64 s)))
+    → (mid ≤ room) × (0 < mid → pos mid ≤ℤ to_z w64 (of_z w64 r)) × (0 < room → pos 0 <ℤ to_z w64 (of_z w64 r) → 0 < mid)
+    → (b ≤ mid) × (0 < b → pos b ≤ℤ to_z w64 (of_z w64 n)) × (0 < mid → pos 0 <ℤ to_z w64 (of_z w64 n) → 0 < b) → Spends room mid b x y
+spends room mid b r s n x y f g h p q e k l =
+    record { of_start = spares room mid r x p f k; of_target = spares mid b n _ (e ∙ ap (λ z. saturate_signed w64 (neg_ℤ z)) (shown_at s y g q)) h l }
+
+pub fits_room : (room mid b : ℕ) (x y : ℤ) → Spends room mid b x y → b ≤ room
+fits_room room mid b x y p = omega (arith, p.of_start.within, p.of_target.within)
+
+pub has_of : (room mid b : ℕ) (x y : ℤ) → Spends room mid b x y → 0 < b → pos b ≤ℤ x
+has_of room mid b x y p h = let q = p.of_start.has (omega (arith, p.of_target.within)) in omega (arith, ints, q, p.of_target.within)
+
+pub lacks_of : (room mid b : ℕ) (x y : ℤ) → Spends room mid b x y → 0 < b → (y +ℤ pos b) ≤ℤ pos 0
+lacks_of room mid b x y p h = lacked y b (p.of_target.has h)
 
 module _ (net : Net) (standing : List ℕ) (ls : List (Label Both)) (target : ℕ) (plan : List ℕ) (left : List ℤ) where
   -- nothing is sent
@@ -46,15 +93,15 @@ module _ (net : Net) (standing : List ℕ) (ls : List (Label Both)) (target : �
   never_lost h = sends_none (λ old f z t r. h old f r.arrival z r.same r.below r.labelled)
 
   module _ (room s : ℕ) (route : Route net standing plan ls room target s) where
-    pub never_spent : (spare b : ℕ) → 0 < room → (0 < room → pos 0 <ℤ get_or left s (pos 0) → 0 < spare) → (0 < spare → get_or left target (pos 0) <ℤ pos 0 → 0 < b) → b ≡ 0 → Sends net standing ls target 0 plan plan left left
-    never_spent spare b h p q e =
+    pub never_spent : (mid b : ℕ) → 0 < room → Spends room mid b (get_or left s (pos 0)) (get_or left target (pos 0)) → b ≡ 0 → Sends net standing ls target 0 plan plan left left
+    never_spent mid b h p e =
         sends_none (λ old f z t r.
         let over = r.over s (route_start f z route) in
         let at_start = t.left_overs s (start_below route) in
         let at_target = t.left_overs target r.below in
         let has : pos 0 <ℤ get_or left s (pos 0) = omega (arith, ints, over, at_start) in
         let lacks : get_or left target (pos 0) <ℤ pos 0 = omega (arith, ints, r.lacks, at_target) in
-        let z = q (p h has) lacks in
+        let z = p.of_target.some (p.of_start.some h has) (lacking (get_or left target (pos 0)) lacks) in
         omega (arith, z, e))
 
     module _ (b : ℕ) (after : List ℕ) (left_after : List ℤ) (fits : b ≤ room) (some : 0 < b) (has : pos b ≤ℤ get_or left s (pos 0)) (lacks : (get_or left target (pos 0) +ℤ pos b) ≤ℤ pos 0) (along : Along net ls b target plan after)
@@ -105,26 +152,3 @@ module _ (net : Net) (standing : List ℕ) (ls : List (Label Both)) (target : �
             sent = sent_by;
             some = λ old f z t r. some;
           }
-
--- a number of 64 bits with sign is what its bits say
-pub shown_at : (x y : ℤ) → SFits w64 x → x ≡ y → to_z w64 (of_z w64 x) ≡ y
-shown_at x y f e = to_z-of_z w64 x f ∙ e
-
--- b bikes of those that can be spared, as the start has them over
-pub has_of : (x y : ℤ) (spare b : ℕ) → x ≡ y → 0 < b → b ≤ spare → (0 < spare → pos spare ≤ℤ x) → pos b ≤ℤ y
-has_of x y spare b e h k p = let q = p (omega arith) in omega (arith, ints, q, e)
-
-pub lacks_of : (x y : ℤ) (b : ℕ) → x ≡ y → 0 < b → (0 < b → (x +ℤ pos b) ≤ℤ pos 0) → (y +ℤ pos b) ≤ℤ pos 0
-lacks_of x y b e h p = let q = p h in omega (arith, ints, q, e)
-
-pub over_of : (x y : ℤ) (most r : ℕ) → x ≡ y → (0 < most → pos 0 <ℤ x → 0 < r) → 0 < most → pos 0 <ℤ y → 0 < r
-over_of x y most r e p h k = p h (omega (arith, ints, k, e))
-
-pub under_of : (x y : ℤ) (most r : ℕ) → x ≡ y → (0 < most → x <ℤ pos 0 → 0 < r) → 0 < most → y <ℤ pos 0 → 0 < r
-under_of x y most r e p h k = p h (omega (arith, ints, k, e))
-
--- what is lacking stays while bikes leave another station
-pub lacks_still : (left mid : List ℤ) (s t b : ℕ) (y : ℤ) → mid ≡ set left s y → 0 < b → pos b ≤ℤ get_or left s (pos 0) → (get_or left t (pos 0) +ℤ pos b) ≤ℤ pos 0 → (t < length mid) × ((get_or mid t (pos 0) +ℤ pos b) ≤ℤ pos 0) × (get_or mid t (pos 0) ≡ get_or left t (pos 0))
-lacks_still left mid s t b y e h p q =
-    let g : get_or mid t (pos 0) ≡ get_or left t (pos 0) = rw e (get_or-set_other left s t y (pos 0) (λ w. apart_ends left s t b h p q (sym w))) in
-    (omega (arith, ap length e, length-set left s y, lack_there left t b h q), omega (arith, ints, g, q), g)

@@ -17,16 +17,16 @@ use Rattle.plans.specs.Plans.{stations, leg_at, amount, in_force, Fits}
 use Rattle.plans.specs.Residuals.{forth, back, Joined, step_both, both_group, Certifies}
 use Rattle.certificates.specs.Pushes.{more, fewer, room_forth, room_back}
 use Rattle.certificates.specs.Pushes
-use Rattle.chain_search.specs.declared.label.Last.{Last}
-use Rattle.chain_search.specs.declared.label.Last.TheVariants.{Start, Forth, Back}
-use Rattle.chain_search.specs.declared.label.Arrival.{Arrival}
-use Rattle.chain_search.specs.Labels.{label_at}
-use Rattle.chain_search.specs.declared.label.Label.{Label}
+use Rattle.search.specs.declared.label.Last.{Last}
+use Rattle.search.specs.declared.label.Last.TheVariants.{Start, Forth, Back}
+use Rattle.search.specs.declared.label.Arrival.{Arrival}
+use Rattle.search.specs.Labels.{label_at}
+use Rattle.search.specs.declared.label.Label.{Label}
 use Rattle.pushing.specs.declared.measures.Reach.{Reach}
 use Rattle.pushing.specs.declared.quotes.Quote.{Quote}
 use Rattle.pushing.specs.Sends.{Both, worth_of, Known, SettledFor, planned, SameAmounts, Agrees}
 use Rattle.pushing.specs.declared.looks.Sight.{Sight}
-use Rattle.pushing.specs.declared.looks.Sight.TheVariants.{Lost, Begun, Came}
+use Rattle.pushing.specs.declared.looks.Sight.TheVariants.{Begun, Came}
 
 -- from u to v
 abbrev pub Leads : Net → Last → ℕ → ℕ → Type 0
@@ -52,7 +52,7 @@ shifted (Back k) b plan = fewer plan k b
 -- a step that is there, or none
 abbrev pub Quotes : Net → List ℕ → List ℕ → Last → Option Quote → Type 0
 Quotes net standing plan l None = (u v : ℕ) → Leads net l u v → ⊥
-Quotes net standing plan l (Some q) = Leads net l q.from q.into × (q.room ≡ room_over net standing plan l) × (q.cents ≡ (toll net standing plan l).0) × (q.bikes ≡ (toll net standing plan l).1)
+Quotes net standing plan l (Some q) = Leads net l q.from q.into × (q.room ≡ room_over net standing plan l) × (worth_of q.cost ≡ toll net standing plan l)
 
 -- v is labelled by x, and its last step comes from u, which is labelled too
 pub record Link (net : Net) (standing plan : List ℕ) (ls : List (Label Both)) (b u v : ℕ) (x : Arrival Both) : Type 0 where
@@ -67,10 +67,10 @@ pub data Route (net : Net) (standing plan : List ℕ) (ls : List (Label Both)) (
   goes : {u v s : ℕ} (x : Arrival Both) → v < stations net → Known ls v x → Link net standing plan ls b u v x → Route net standing plan ls b u s → Route net standing plan ls b v s
 
 -- no label, or the station that the last step comes from, with room for a bike, or none because a walk starts there
-abbrev pub Sees : Net → List ℕ → List ℕ → List (Label Both) → ℕ → Sight → Type 0
-Sees net standing plan ls v Lost = (x : Arrival Both) → v < stations net → Known ls v x → (x.last ≢ Start) × ((u : ℕ) → Link net standing plan ls 1 u v x → ⊥)
-Sees net standing plan ls v Begun = (v < stations net) × ((x : Arrival Both) × Known ls v x × (x.last ≡ Start))
-Sees net standing plan ls v (Came u room) = (v < stations net) × (0 < room) × ((x : Arrival Both) × Known ls v x × Link net standing plan ls room u v x)
+abbrev pub Sees : Net → List ℕ → List ℕ → List (Label Both) → ℕ → Option Sight → Type 0
+Sees net standing plan ls v None = (x : Arrival Both) → v < stations net → Known ls v x → (x.last ≢ Start) × ((u : ℕ) → Link net standing plan ls 1 u v x → ⊥)
+Sees net standing plan ls v (Some Begun) = (v < stations net) × ((x : Arrival Both) × Known ls v x × (x.last ≡ Start))
+Sees net standing plan ls v (Some (Came u room)) = (v < stations net) × (0 < room) × ((x : Arrival Both) × Known ls v x × Link net standing plan ls room u v x)
 
 -- nothing, which is so only where labels are of another plan or the station is not labelled, or a route
 abbrev pub Finds : Net → List ℕ → List ℕ → List (Label Both) → ℕ → Option Reach → Type 0

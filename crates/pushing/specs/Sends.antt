@@ -11,23 +11,21 @@
 --   Ready         labels and left overs by which at least one bike can be sent
 --   Sends         what a sending does
 use Rattle.std.specs.Prelude.{◌≡◌, ℕ, ◌+◌, ◌<◌, Bool, List, length, take, drop, ℤ, pos, ◌<ℤ◌, Some, slice_index_or}
-use Rattle.costs.specs.declared.bikes.Bikes.{Bikes}
-use Rattle.costs.specs.declared.cents.Cents.{Cents}
-use Rattle.costs.specs.declared.pair.Pair.{Pair}
+use Rattle.costs.specs.Kinds.{CentsThenBikes}
 use Rattle.network.specs.Nets.{Net}
 use Rattle.plans.specs.Plans.{stations, amount, Fits}
 use Rattle.plans.specs.Residuals.{both_group, Certifies}
 use Rattle.plans.specs.Cuts.{left_over}
 use Rattle.certificates.specs.Totals.{all_over}
 use Rattle.steps.specs.Fees.{both_worth}
-use Rattle.chain_search.specs.Labels.{label_at}
-use Rattle.chain_search.specs.Searches.{Answer, From}
-use Rattle.chain_search.specs.declared.label.Arrival.{Arrival}
-use Rattle.chain_search.specs.declared.label.Label.{Label}
-use Rattle.chain_search.specs.declared.outcome.Outcome.TheVariants.{Settled}
+use Rattle.search.specs.Labels.{label_at}
+use Rattle.search.specs.Searches.{Answer, From}
+use Rattle.search.specs.declared.label.Arrival.{Arrival}
+use Rattle.search.specs.declared.label.Label.{Label}
+use Rattle.search.specs.declared.outcome.Outcome.TheVariants.{Settled}
 
 abbrev pub Both : Type 0
-Both = Pair Cents Bikes
+Both = CentsThenBikes
 
 abbrev pub worth_of : Both → ℤ × ℤ
 worth_of p = (p.first.0, p.second.0)

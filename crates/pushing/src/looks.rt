@@ -1,79 +1,61 @@
 // The last step of a label, as a plan stands now.
-ghost use Rattle.std.specs.Prelude.{◌≡◌, ℕ, ℤ, ◌+ℤ◌, Decides};
-ghost use Rattle.chain_search.specs.Labels.{label_at};
+ghost use Rattle.std.specs.Prelude.{◌≡◌, Decides};
+ghost use Rattle.plans.specs.Residuals.{both_group};
+ghost use Rattle.search.specs.Labels.{label_at};
 ghost use Rattle.pushing.specs.Routes.{Sees};
+ghost use Rattle.pushing.specs.Sends.{worth_of};
 
-use crate::quotes::quote_of;
-use chain_search::{Arrival, Label, Last};
-use costs::{Bikes, Cents, Pair};
+use crate::Routes;
+use chain_search::{Arrival, Last};
+use costs::CentsThenBikes;
 use network::Network;
 
-// What is to be seen at a station: nothing to go by, the start of a walk, or the step that it comes by.
+// What is to be seen at a station: the start of a walk, or the step that it comes by. No option of a step: `look` answers an
+// option of this, and two options in one another would tell less of what a None means.
 #[derive(Clone, Copy)]
 pub(crate) enum Sight {
-    Lost,
     Begun,
     Came { from: usize, room: u16 },
 }
 
-// The arrival in the label of a station.
-pub(crate) fn arrival_at(
-    labels: &[Label<Pair<Cents, Bikes>>],
-    station: usize,
-) -> Option<Arrival<Pair<Cents, Bikes>>>
-    ensures { result ≡ (label_at labels.now station).arrival }
+// Whether a total is the sum of two others.
+fn is_sum(total: CentsThenBikes, one: CentsThenBikes, other: CentsThenBikes) -> bool
+    ensures { Decides result (worth_of total ≡ both_group.add (worth_of one) (worth_of other)) }
 {
-    if station >= labels.len() {
-        return None;
-    }
-    labels[station].arrival
+    one.first.0.checked_add(other.first.0) == Some(total.first.0)
+        && one.second.0.checked_add(other.second.0) == Some(total.second.0)
 }
 
-// Whether one number is the sum of two others.
-fn is_sum(total: i64, one: i64, other: i64) -> bool
-    ensures { Decides result (total ≡ one +ℤ other) }
-{
-    match one.checked_add(other) {
-        Some(sum) => sum == total,
-        None => false,
-    }
-}
-
-// What is to be seen at a station.
-pub(crate) fn look<N: Network>(
-    net: &N,
-    standing: &[u16],
-    plan: &[u16],
-    labels: &[Label<Pair<Cents, Bikes>>],
-    station: usize,
-) -> Sight
-    ensures { Sees (N.Network.meaning net.now) standing.now plan.now labels.now station result }
-{
-    if station >= net.stations() {
-        return Sight::Lost;
-    }
-    let Some(arrival) = arrival_at(labels, station) else {
-        return Sight::Lost;
-    };
-    if let Last::Start = arrival.last {
-        return Sight::Begun;
-    }
-    let Some(quote) = quote_of(net, standing, plan, arrival.last) else {
-        return Sight::Lost;
-    };
-    if quote.into != station || quote.room == 0 {
-        return Sight::Lost;
-    }
-    let Some(before) = arrival_at(labels, quote.from) else {
-        return Sight::Lost;
-    };
-    if !is_sum(arrival.total.first.0, before.total.first.0, quote.cents)
-        || !is_sum(arrival.total.second.0, before.total.second.0, quote.bikes)
+impl<'a, N: Network> Routes<'a, N> {
+    // The arrival in the label of a station.
+    pub(crate) fn arrival_at(&self, station: usize) -> Option<Arrival<CentsThenBikes>>
+        ensures { result ≡ (label_at self.now.labels.now station).arrival }
     {
-        return Sight::Lost;
+        self.labels.get(station)?.arrival
     }
-    Sight::Came {
-        from: quote.from,
-        room: quote.room,
+
+    // What is to be seen at a station, if there is anything to go by.
+    pub(crate) fn look(&self, plan: &[u16], station: usize) -> Option<Sight>
+        ensures { Sees (N.Network.meaning self.now.net.now) self.now.standing.now plan.now self.now.labels.now station result }
+    {
+        if station >= self.net.stations() {
+            return None;
+        }
+        let arrival = self.arrival_at(station)?;
+        if let Last::Start = arrival.last {
+            return Some(Sight::Begun);
+        }
+        let quote = self.quote_of(plan, arrival.last)?;
+        if quote.into != station || quote.room == 0 {
+            return None;
+        }
+        let before = self.arrival_at(quote.from)?;
+        if !is_sum(arrival.total, before.total, quote.cost) {
+            return None;
+        }
+        Some(Sight::Came {
+            from: quote.from,
+            room: quote.room,
+        })
     }
 }

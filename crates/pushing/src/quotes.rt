@@ -1,13 +1,13 @@
 // What a step over a leg would take and cost, as a plan stands now.
-ghost use Rattle.std.specs.Prelude.{◌≡◌, ℕ, ◌-◌, min, ℤ, pos, negsuc, neg_ℤ, if◌then◌else◌, MatchOption, nat_lt};
-ghost use Rattle.plans.specs.Plans.{leg_at};
-ghost use Rattle.plans.specs.Residuals.{Joined};
+ghost use Rattle.std.specs.Prelude.{◌≡◌, ℕ, ◌-◌, min, ℤ, pos, negsuc, neg_ℤ, if◌then◌else◌, nat_lt};
 ghost use Rattle.pushing.specs.Routes.{Quotes};
 
+use crate::Routes;
 use chain_search::Last;
+use costs::CentsThenBikes;
 use network::Network;
-use records::Leg;
-use steps::{amount_at, in_force};
+use search::joined_leg;
+use steps::{Fees, InBoth, amount_at, in_force};
 
 // The stations that a step leads from and to, how many bikes it can take, and its cost.
 #[derive(Clone, Copy)]
@@ -15,8 +15,7 @@ pub(crate) struct Quote {
     pub from: usize,
     pub into: usize,
     pub room: u16,
-    pub cents: i64,
-    pub bikes: i64,
+    pub cost: CentsThenBikes,
 }
 
 // How many bikes more a leg can take, not past the standing amount.
@@ -42,58 +41,37 @@ fn room_back(standing: u16, amount: u16) -> u16
     }
 }
 
-// The leg of a number, if it is there and leads from a station to a station.
-fn joined_leg<N: Network>(net: &N, number: usize) -> Option<Leg>
-    ensures { MatchOption result (Joined (N.Network.meaning net.now) number → ⊥) (λ l. Joined (N.Network.meaning net.now) number × (leg_at (N.Network.meaning net.now) number ≡ l)) }
-{
-    let Some(leg) = net.leg(number) else {
-        return None;
-    };
-    let stations = net.stations();
-    if leg.start as usize >= stations || leg.end as usize >= stations {
-        return None;
-    }
-    Some(leg)
-}
-
-// The step of a last step, if it leads from a station to a station.
-pub(crate) fn quote_of<N: Network>(
-    net: &N,
-    standing: &[u16],
-    plan: &[u16],
-    last: Last,
-) -> Option<Quote>
-    ensures { Quotes (N.Network.meaning net.now) standing.now plan.now last result }
-{
-    match last {
-        Last::Start => None,
-        Last::Forth { leg: number } => {
-            let Some(leg) = joined_leg(net, number) else {
-                return None;
-            };
-            let held = amount_at(standing, number);
-            let amount = amount_at(plan, number);
-            Some(Quote {
-                from: leg.start as usize,
-                into: leg.end as usize,
-                room: room_forth(in_force(leg), held, amount),
-                cents: i64::from(leg.charge),
-                bikes: if held <= amount { 1 } else { -1 },
-            })
-        }
-        Last::Back { leg: number } => {
-            let Some(leg) = joined_leg(net, number) else {
-                return None;
-            };
-            let held = amount_at(standing, number);
-            let amount = amount_at(plan, number);
-            Some(Quote {
-                from: leg.end as usize,
-                into: leg.start as usize,
-                room: room_back(held, amount),
-                cents: -i64::from(leg.charge),
-                bikes: if held < amount { -1 } else { 1 },
-            })
+impl<'a, N: Network> Routes<'a, N> {
+    // The step of a last step, if it leads from a station to a station. The arms differ in the ends, the room and the
+    // fee: one arm for both would ask for the direction at each.
+    pub(crate) fn quote_of(&self, plan: &[u16], last: Last) -> Option<Quote>
+        ensures { Quotes (N.Network.meaning self.now.net.now) self.now.standing.now plan.now last result }
+    {
+        let fees = InBoth {
+            standing: self.standing,
+        };
+        match last {
+            Last::Start => None,
+            Last::Forth { leg: number } => {
+                let leg = joined_leg(self.net, number)?;
+                let amount = amount_at(plan, number);
+                Some(Quote {
+                    from: usize::from(leg.start),
+                    into: usize::from(leg.end),
+                    room: room_forth(in_force(leg), amount_at(self.standing, number), amount),
+                    cost: fees.forth(number, leg, amount),
+                })
+            }
+            Last::Back { leg: number } => {
+                let leg = joined_leg(self.net, number)?;
+                let amount = amount_at(plan, number);
+                Some(Quote {
+                    from: usize::from(leg.end),
+                    into: usize::from(leg.start),
+                    room: room_back(amount_at(self.standing, number), amount),
+                    cost: fees.back(number, leg, amount),
+                })
+            }
         }
     }
 }

@@ -13,21 +13,18 @@ fn cents_on<N: Network>(net: &N, plan: &[u16], number: usize) -> u64
     ensures value { result ≡ (leg_at (N.Network.meaning net.now) number).charge * amount plan.now number }
     ensures bound { result < 2 ^ 48 }
 {
-    let Some(leg) = net.leg(number) else {
-        return 0;
-    };
-    u64::from(leg.charge) * u64::from(amount_at(plan, number))
+    net.leg(number).map_or(0, |leg| {
+        u64::from(leg.charge) * u64::from(amount_at(plan, number))
+    })
 }
 
 // The cents of a plan: charge × bikes over all legs.
 pub fn cents_of<N: Network>(net: &N, plan: &[u16]) -> u64
     ensures { result ≡ cents (N.Network.meaning net.now) plan.now }
 {
-    let mut total = 0u64;
-    for number in 0..net.legs() {
-        total += cents_on(net, plan, number);
-    }
-    total
+    (0..net.legs())
+        .map(|number| cents_on(net, plan, number))
+        .sum()
 }
 
 // The larger amount on one leg less the smaller.
@@ -42,9 +39,7 @@ fn apart_on(standing: &[u16], plan: &[u16], number: usize) -> u64
 pub fn difference_of<N: Network>(net: &N, standing: &[u16], plan: &[u16]) -> u64
     ensures { result ≡ difference (N.Network.meaning net.now) standing.now plan.now }
 {
-    let mut total = 0u64;
-    for number in 0..net.legs() {
-        total += apart_on(standing, plan, number);
-    }
-    total
+    (0..net.legs())
+        .map(|number| apart_on(standing, plan, number))
+        .sum()
 }

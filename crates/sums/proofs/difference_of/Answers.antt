@@ -1,11 +1,16 @@
-use Rattle.std.proofs.Common.{arith}
-use Rattle.plans.specs.Plans.{amount, apart}
-use Rattle.sums.proofs.Adding.{sum_more}
+use Rattle.std.proofs.Common.{ℕ, ◌≤◌, ap, ◌∙◌, arith, rules}
+use Rattle.plans.specs.Plans.{amount, apart, sum_below}
+use Rattle.sums.proofs.Adding.{sums_fit, summed}
 use Rattle.sums.proofs.difference_of.Goals as goal
 
-pub loop-number-preserved : goal.loop-number-preserved
-loop-number-preserved g c = (
-  sum_more (λ k. apart (amount c.args.plan.now k) (amount c.args.standing.now k)) c.loop-number.number c.loop-number.total c.apart_on-total.result c.loop-number.invariant.0 c.apart_on-total.ensures.value,
-  omega (arith, c.apart_on-total.ensures.bound),
-  c.loop-number.invariant.2,
-)
+pub sum-requires-clause-fits : goal.sum-requires-clause-fits
+sum-requires-clause-fits g c =
+    let w = g.N.Network.limits c.args.net.now in
+    let few : c.legs.result ≤ 3000 = omega (arith, w.few_legs) in
+    sums_fit _ _ c.legs.result c.map.ensures.source c.map.ensures.closure few (λ x r q k. search rules)
+
+pub returns : goal.returns
+returns g c =
+    let read = λ (k : ℕ). apart (amount c.args.plan.now k) (amount c.args.standing.now k) in
+    summed _ _ c.legs.result read c.sum.result c.sum.ensures.ran c.map.ensures.source c.map.ensures.closure (λ x r q k. search rules)
+    ∙ ap (λ n. sum_below n read) c.legs.ensures

@@ -1,31 +1,16 @@
-use Rattle.std.proofs.Common.{◌≡◌, ◌<◌, ◌≤◌, length, pos, refl, subst, arith, w32, SFits, rules, below_more}
-use Rattle.std.proofs.lemmas.Int.{ints}
-use Rattle.plans.specs.Plans.{stations, balance_at}
-use Rattle.first_plan.specs.Laid.{Written}
-use Rattle.first_plan.proofs.Entering.{written_none, written_more}
+use Rattle.std.proofs.Common.{◌≡◌, pos, ap, ◌∙◌, arith, w32, w64, SFits, to_z, of_z, rules}
+use Rattle.std.specs.Option.{unwrap_or}
+use Rattle.std.proofs.lemmas.Int.{ints, to_z-of_z}
+use Rattle.std.proofs.lemmas.Option.{unwrap_or-slice_get}
+use Rattle.first_plan.proofs.Moving.{written_more}
 use Rattle.first_plan.proofs.laying.write_balances.Goals as goal
-
-pub loop-station-init : goal.loop-station-init
-loop-station-init g c =
-    let net = g.N.Network.meaning c.args.net.now in
-    (written_none (stations net) (balance_at net) (pos 0) c.args.left.now, λ v h. absurd (omega arith))
 
 pub loop-station-preserved : goal.loop-station-preserved
 loop-station-preserved g c =
     let net = g.N.Network.meaning c.args.net.now in
-    let fits : SFits w32 c.balance_of.result = search rules in
-    let inside : c.loop-station.station < stations net = omega (arith, c.stations-station-end.ensures) in
-    let long : stations net ≤ length c.loop-station.left = omega (arith, c.requires) in
-    let e = c.balance_of.ensures in (
-      written_more (stations net) c.loop-station.station (balance_at net) (pos 0) c.args.left.now c.loop-station.left _ _ inside long (omega (arith, ints, e)) refl c.loop-station.invariant.0,
-      below_more _ _ c.loop-station.invariant.1 (omega (arith, ints, e), omega (arith, ints, e)),
-    )
-
-pub returns : goal.returns
-returns g c =
-    let net = g.N.Network.meaning c.args.net.now in
-    let e : c.loop-station.station ≡ stations net = omega (arith, c.stations-station-end.ensures) in
-    record {
-      written = subst (λ i. Written (stations net) i (balance_at net) (pos 0) c.args.left.now c.loop-station.left) e c.loop-station.invariant.0;
-      near = λ v h. c.loop-station.invariant.1 v (omega arith);
-    }
+    let i = c.loop-station.station in
+    let f32 : SFits w32 c.unwrap_or.result = search rules in
+    let f64 : SFits w64 c.from.result = search rules in
+    let same : to_z w64 (of_z w64 c.from.result) ≡ c.unwrap_or.result = to_z-of_z w64 c.from.result f64 ∙ c.from.ensures ∙ to_z-of_z w32 c.unwrap_or.result f32 in
+    let e = c.unwrap_or.ensures ∙ ap (λ o. unwrap_or o (pos 0)) c.balance.ensures ∙ unwrap_or-slice_get net.balances i (pos 0) in
+    written_more net c.loop-station.left i _ (omega arith) (same ∙ e) (omega (arith, ints, same, f32), omega (arith, ints, same, f32)) c.loop-station.invariant

@@ -1,10 +1,8 @@
-use Rattle.std.proofs.Common.{ℕ, ◌<◌, pos}
-use Rattle.plans.specs.Plans.{stations, balance_at}
-use Rattle.first_plan.specs.Laid.{Near, Written}
+use Rattle.std.proofs.Common.{◌≡◌, ℕ, ◌<◌, get_or, pos}
+use Rattle.plans.specs.Plans.{balance_at}
+use Rattle.first_plan.specs.Laid.{Near}
 use Rattle.first_plan.proofs.laying.write_balances.Given as goal
 
 -- the balances below are written
 abbrev pub invariant-loop-station : goal.invariant-loop-station
-invariant-loop-station g l =
-    Written (stations (g.N.Network.meaning l.net)) l.station (balance_at (g.N.Network.meaning l.net)) (pos 0) l.initial.left l.left
-    × ((v : ℕ) → v < l.station → Near 2147483648 (balance_at (g.N.Network.meaning l.net) v))
+invariant-loop-station g l = (v : ℕ) → v < l.station → (get_or l.left v (pos 0) ≡ balance_at (g.N.Network.meaning l.net) v) × Near 2147483648 (get_or l.left v (pos 0))

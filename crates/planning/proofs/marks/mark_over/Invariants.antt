@@ -1,7 +1,6 @@
-use Rattle.std.proofs.Common.{◌≡◌, length}
 use Rattle.planning.specs.States.{Marks}
 use Rattle.planning.proofs.marks.mark_over.Given as goal
 
 -- the stations below are marked
 abbrev pub invariant-loop-station : goal.invariant-loop-station
-invariant-loop-station l = (length l.marks ≡ length l.initial.marks) × Marks l.station l.left l.marks
+invariant-loop-station l = Marks l.station l.left l.marks
