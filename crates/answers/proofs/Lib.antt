@@ -1,3 +1,3 @@
-pub mod Lines
-pub mod Printing
-pub mod Told
+pub mod Answering
+pub mod Gathering
+pub mod Telling

@@ -9,7 +9,7 @@ use Rattle.std.proofs.lemmas.List.{get_or-take}
 use Rattle.records.specs.Cleared.{cleared_leg}
 use Rattle.records.specs.declared.leg.Leg.{Leg}
 use Rattle.network.specs.Nets.{Net}
-use Rattle.network.proofs.Places.{get_or_some}
+use Rattle.std.proofs.lemmas.Option.{get_or_from_slice_get}
 use Rattle.plans.specs.Plans.{leg_at, amount}
 use Rattle.planning.specs.Planned.{the_plan}
 use Rattle.plan_answers.specs.Printed.{leg_line}
@@ -52,7 +52,7 @@ pub legs_added : (net : Net) (amounts : List ℕ) (i bikes : ℕ) (leg : Leg) (s
     → after ≡ before ++ leg_line leg bikes → after ≡ start ++ lines_below net amounts (i + 1)
 legs_added net amounts i bikes leg start before after inside found carried held added =
     let line : ℕ → List ℕ = λ k. leg_line (leg_at net k) (amount (the_plan net amounts) k) in
-    let same-leg : leg ≡ leg_at net i = sym (get_or_some net.legs i leg cleared_leg (sym found)) in
+    let same-leg : leg ≡ leg_at net i = sym (get_or_from_slice_get net.legs i leg cleared_leg (sym found)) in
     let same-bikes : bikes ≡ amount (the_plan net amounts) i = carried ∙ sym (get_or-take (length net.legs) amounts i 0 inside) in
     added ∙ ap (λ l. before ++ leg_line l bikes) same-leg ∙ ap (λ b. before ++ leg_line (leg_at net i) b) same-bikes
     ∙ ap (λ s. s ++ line i) held ∙ append_assoc start (lines_below net amounts i) (line i)

@@ -1,20 +1,13 @@
 // The lines that `plan_once` prints.
-ghost use Rattle.std.specs.Prelude.{◌≡◌, ◌+◌, ◌++◌, IfOk, string_bytes, OnOk};
+ghost use Rattle.std.specs.Prelude.{◌≡◌, ◌++◌, IfOk, string_bytes, OnOk};
 ghost use Rattle.planning.specs.Planned.{the_plan};
-ghost use Rattle.records.specs.Refusals.{number, place};
-ghost use Rattle.plan_answers.specs.Printed.{refusal_line, cents_line, leg_line, leg_lines};
+ghost use Rattle.plan_answers.specs.Printed.{cents_line, leg_line, leg_lines};
 
 use network::Network;
-use records::{Leg, Refusal};
+use records::Leg;
 use std::alloc::{AllocError, Global};
 use steps::amount_at;
-
-// The ID of a station, by its number.
-fn id_of(station: u16) -> u32
-    ensures { result ≡ station + 1 }
-{
-    u32::from(station) + 1
-}
+use text_rules::id_of;
 
 // Appends the line of a leg and its bikes.
 fn write_leg(out: &mut String, leg: &Leg, bikes: u16) -> Result<(), AllocError>
@@ -63,13 +56,4 @@ pub fn plan_text<N: Network>(
     let mut out = String::new(heap);
     write_plan(&mut out, net, cents, amounts)?;
     Ok(out)
-}
-
-// The line that tells a refusal.
-pub fn refusal_text(heap: Global, refusal: Refusal) -> Result<String, AllocError>
-    ensures { IfOk result (λ s. string_bytes s ≡ refusal_line (number refusal) (place refusal)) }
-{
-    let number = refusal.number();
-    let place = refusal.place();
-    format!(in heap; "c refused {number} {place}\n")
 }
