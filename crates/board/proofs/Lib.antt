@@ -1,5 +1,4 @@
 pub mod Calls
-pub mod Copying
 pub mod Rooms
 pub mod Planning
 pub mod Making

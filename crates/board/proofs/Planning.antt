@@ -10,14 +10,14 @@ use Rattle.planning.specs.Planned as rule
 use Rattle.planning.specs.Planned.{Accepted, Impossible, the_plan}
 use Rattle.tally.specs.Follows.{papers, Follows}
 use Rattle.tally.specs.declared.answer.Answer.TheVariants.{Refused, Planned}
-use Rattle.board.specs.Views.{seen, plan_call, Copied}
+use Rattle.board.specs.Views.{seen, plan_call}
 use Rattle.board.proofs.Calls.{when_accepted, when_refused}
 
 pub plans_follow : (m : ℕ) (n : Net) (xs xs' vs ks : List ℕ) (l : Lengths) (a : ℕ × ℕ) (ps ps' : List ℤ) (cut cut' amounts : List ℕ) → m ≡ length n.legs
-    → rule.Planned n (take m xs) l (Ok a) ps ps' cut cut' amounts → Copied m amounts xs xs'
+    → rule.Planned n (take m xs) l (Ok a) ps ps' cut cut' amounts → take m xs' ≡ take m amounts
     → Follows (seen n xs vs ks) (plan_call l) (Planned a.0 a.1) (papers ps cut) (papers ps' cut') (seen n xs' vs ks)
 plans_follow m n xs xs' vs ks l a ps ps' cut cut' amounts e p c =
-    let q : the_plan n amounts ≡ take (length n.legs) xs' = sym (subst (λ (z : ℕ). take z xs' ≡ take z amounts) e c.same) in
+    let q : the_plan n amounts ≡ take (length n.legs) xs' = sym (subst (λ (z : ℕ). take z xs' ≡ take z amounts) e c) in
     when_accepted (seen n xs vs ks) (plan_call l) (Planned a.0 a.1) (papers ps cut) (papers ps' cut') (seen n xs' vs ks)
     (ap (option_map (λ (r : Refusal). (number r, place r))) p.0) (
       subst (λ (zs : List ℕ). Accepted n (take (length n.legs) xs) zs a.0 a.1 ps ps' cut cut') q

@@ -1,9 +1,9 @@
 -- What is left of the lent memory, call by call.
-use Rattle.std.proofs.Common.{◌≡◌, ℕ, ◌+◌, ◌<◌, ◌≤◌, List, length, sym, refl, ◌∙◌, subst, inl, inr, add-one, arith, below_more}
+use Rattle.std.proofs.Common.{◌≡◌, ℕ, ◌+◌, ◌<◌, ◌≤◌, List, length, inl, inr, arith}
 use Rattle.tally.specs.Runs.{call_at, prices_long, numbers_long, amounts_long, from}
 use Rattle.tally.specs.declared.call.Call.{Call}
 use Rattle.tally.proofs.Growing.{sum_in}
-use Rattle.board.specs.Running.{stations_long, legs_long, entries, TooFew, Left, Fits}
+use Rattle.board.specs.Running.{stations_long, legs_long, entries, TooFew, Fits}
 use Rattle.board.specs.declared.entries.Entries.{Entries}
 
 -- after i calls
@@ -15,37 +15,6 @@ pub record Remains (m : ℕ) (calls : List Call) (i : ℕ) (lent left : Entries)
   pub legs : left.legs ≡ lent.legs
   pub stations_suffice : (k : ℕ) → k < i → stations_long (call_at calls k) ≤ lent.stations
   pub legs_suffice : (k : ℕ) → k < i → legs_long (call_at calls k) ≤ lent.legs
-
-pub remains_none : (m : ℕ) (calls : List Call) (lent : Entries) → Remains m calls 0 lent lent
-remains_none m calls lent = record {
-  prices = omega arith;
-  numbers = omega arith;
-  amounts = omega arith;
-  stations = refl;
-  legs = refl;
-  stations_suffice = λ k h. absurd (omega (arith, h));
-  legs_suffice = λ k h. absurd (omega (arith, h));
-}
-
-pub remains_more : (m : ℕ) (calls : List Call) (i : ℕ) (lent left rest : Entries) → Remains m calls i lent left → Left left (entries m (call_at calls i)) rest → Remains m calls (i + 1) lent rest
-remains_more m calls i lent left rest R L = subst (λ (j : ℕ). Remains m calls j lent rest) (sym (add-one i)) (record {
-  prices = omega (arith, R.prices, L.prices);
-  numbers = omega (arith, R.numbers, L.numbers);
-  amounts = omega (arith, R.amounts, L.amounts);
-  stations = L.stations ∙ R.stations;
-  legs = L.legs ∙ R.legs;
-  stations_suffice = λ k h. below_more (λ (j : ℕ). stations_long (call_at calls j) ≤ lent.stations) i R.stations_suffice (omega (arith, L.stations_suffice, R.stations)) k (omega (arith, h));
-  legs_suffice = λ k h. below_more (λ (j : ℕ). legs_long (call_at calls j) ≤ lent.legs) i R.legs_suffice (omega (arith, L.legs_suffice, R.legs)) k (omega (arith, h));
-})
-
-pub remains_fits : (m : ℕ) (calls : List Call) (i : ℕ) (lent left : Entries) → i ≡ length calls → Remains m calls i lent left → Fits m calls (length calls) lent
-remains_fits m calls i lent left e R = subst (λ (j : ℕ). Fits m calls j lent) e (record {
-  prices = omega (arith, R.prices);
-  numbers = omega (arith, R.numbers);
-  amounts = omega (arith, R.amounts);
-  stations = R.stations_suffice;
-  legs = R.legs_suffice;
-})
 
 -- where one call finds too few, not all are served
 pub too_few : (m : ℕ) (calls : List Call) (i : ℕ) (lent left : Entries) → i < length calls → Remains m calls i lent left → TooFew left (entries m (call_at calls i)) → Fits m calls (length calls) lent → ⊥

@@ -1,7 +1,8 @@
 -- One call of a run on its part of the lent memory.
-use Rattle.std.proofs.Common.{◌≡◌, ℕ, ◌+◌, ◌-◌, ◌<◌, ◌≤◌, min, List, length, take, drop, set, ℤ, sym, refl, ap, ◌∙◌, subst, add-one, arith, length-drop, length-take}
+use Rattle.std.proofs.Common.{◌≡◌, ℕ, ◌+◌, ◌-◌, ◌<◌, ◌≤◌, List, length, take, drop, set, ℤ, sym, refl, ap, ◌∙◌, subst, add-one, arith, length-drop, length-take}
 use borrow.Rule.Slice.PartMut.{put_mid}
 use Rattle.std.proofs.lemmas.Slice.{take-put_mid_below, drop-put_mid, between-put_mid}
+use Rattle.network.specs.Nets.{Net}
 use Rattle.tally.specs.Follows.{Papers, papers, Follows}
 use Rattle.tally.specs.Runs.{Lent, call_at, prices_long, numbers_long, amounts_long, from, HandsOut, Makes}
 use Rattle.tally.specs.Tallies.{Tally}
@@ -9,8 +10,12 @@ use Rattle.tally.specs.declared.answer.Answer.{Answer}
 use Rattle.tally.specs.declared.call.Call.{Call}
 use Rattle.tally.proofs.Growing.{sum_in, longer, run_more, beyond_call, run_none, beyond_none}
 use Rattle.tally.proofs.Keeping.{legs_same}
-use Rattle.board.specs.Running.{lending, HasRoom, Fits, Moves, MadeAll}
+use Rattle.planning.specs.Planned.{SameTables}
+use Rattle.planning.specs.declared.tables.Tables.{Tables}
+use Rattle.planning.proofs.Keeping.{same_slice, slice_twice}
+use Rattle.board.specs.Running.{lending, lent_by, given, SameSheet, HasRoom, Fits, Moves, MadeAll}
 use Rattle.board.specs.declared.entries.Entries.{Entries}
+use Rattle.board.specs.declared.sheet.Sheet.{Sheet}
 
 -- how long a part is
 part_long : {X : Type 0} (p k : ℕ) (xs : List X) {n : ℕ} → p + k ≤ length xs → n ≡ length (take k (drop p xs)) → n ≡ k
@@ -60,29 +65,27 @@ pub record Going (m : ℕ) (first last : Tally) (calls : List Call) (i : ℕ) (a
   pub amounts : at.amounts ≡ from (amounts_long m) calls i
   pub legs_stay : length last.meaning.legs ≡ m
 
-pub going_none : (first : Tally) (calls : List Call) (answers : List Answer) (lent : Lent) (s l : ℕ)
-    → Going (length first.meaning.legs) first first calls 0 answers answers lent lent (record { prices = 0; numbers = 0; amounts = 0; stations = s; legs = l })
-going_none first calls answers lent s l = record {
+pub going_none : (meaning : Net) (first : Tally) (calls : List Call) (answers : List Answer) (lent : Lent) (at : Entries) → meaning ≡ first.meaning → at.prices ≡ 0 → at.numbers ≡ 0 → at.amounts ≡ 0
+    → Going (length meaning.legs) first first calls 0 answers answers lent lent at
+going_none meaning first calls answers lent at e p q r = record {
   made = record { tally = λ _. first; run = run_none _ first calls answers lent; beyond = beyond_none _ calls answers lent };
-  prices = refl;
-  numbers = refl;
-  amounts = refl;
-  legs_stay = refl;
+  prices = p;
+  numbers = q;
+  amounts = r;
+  legs_stay = ap (λ (n : Net). length n.legs) (sym e);
 }
 
 -- the entries of the next call lie within the lent memory
 pub has_room : (m : ℕ) (first t : Tally) (calls : List Call) (i : ℕ) (answers answers' : List Answer) (lent lent' : Lent) (at has has' : Entries) → i < length calls
-    → Going m first t calls i answers answers' lent lent' at → Fits m calls (length calls) has
-    → has'.prices ≡ has.prices → has'.numbers ≡ has.numbers → has'.amounts ≡ has.amounts → has'.stations ≡ has.stations → has'.legs ≡ has.legs
-    → HasRoom (length t.meaning.legs) (call_at calls i) at has'
-has_room m first t calls i answers answers' lent lent' at has has' h G F a b c d e =
-    subst (λ (z : ℕ). HasRoom z (call_at calls i) at has') (sym G.legs_stay) (record {
-      prices = omega (arith, a, G.prices, F.prices, sum_in (λ k. prices_long (call_at calls k)) (length calls) i h);
-      numbers = omega (arith, b, G.numbers, F.numbers, sum_in (λ k. numbers_long (call_at calls k)) (length calls) i h);
-      amounts = omega (arith, c, G.amounts, F.amounts, sum_in (λ k. amounts_long m (call_at calls k)) (length calls) i h);
-      stations = omega (arith, d, F.stations i h);
-      legs = omega (arith, e, F.legs i h);
-    })
+    → Going m first t calls i answers answers' lent lent' at → Fits m calls (length calls) has → has' ≡ has → HasRoom (length t.meaning.legs) (call_at calls i) at has'
+has_room m first t calls i answers answers' lent lent' at has has' h G F e =
+    subst (λ (z : Entries). HasRoom (length t.meaning.legs) (call_at calls i) at z) (sym e) (subst (λ (z : ℕ). HasRoom z (call_at calls i) at has) (sym G.legs_stay) (record {
+      prices = omega (arith, G.prices, F.prices, sum_in (λ k. prices_long (call_at calls k)) (length calls) i h);
+      numbers = omega (arith, G.numbers, F.numbers, sum_in (λ k. numbers_long (call_at calls k)) (length calls) i h);
+      amounts = omega (arith, G.amounts, F.amounts, sum_in (λ k. amounts_long m (call_at calls k)) (length calls) i h);
+      stations = F.stations i h;
+      legs = F.legs i h;
+    }))
 
 pub going_more : (m : ℕ) (first t t' : Tally) (calls : List Call) (i : ℕ) (answers answers' : List Answer) (x : Answer) (lent l l' : Lent) (at at' : Entries) → i < length answers'
     → Going m first t calls i answers answers' lent l at → Makes (length t.meaning.legs) (call_at calls i) x t t' at.prices at.numbers at.amounts l l'
@@ -112,9 +115,13 @@ back p e = omega arith
 pub within : (p : ℕ) {k l n : ℕ} → k ≡ l → p + l ≤ n → p + ((p + k) - p) ≤ n
 within p e h = omega arith
 
--- tables that keep their lengths
-pub five_same : {a b c d e a' b' c' d' e' : ℕ} → a' ≡ a → b' ≡ b → c' ≡ c → d' ≡ d → e' ≡ e → min (min (min (min a' b') c') d') e' ≡ min (min (min (min a b) c) d) e
-five_same p q r s t = cc
+-- slices that stay the same
+pub same_sheet : (a : Sheet) → SameSheet a a
+same_sheet a = record { prices = same_slice a.prices; numbers = same_slice a.numbers; amounts = same_slice a.amounts }
 
-pub two_same : {a b a' b' : ℕ} → a' ≡ a → b' ≡ b → min a' b' ≡ min a b
-two_same p q = cc
+pub sheet_twice : {a b c : Sheet} → SameSheet a b → SameSheet b c → SameSheet a c
+sheet_twice p q = record { prices = slice_twice p.prices q.prices; numbers = slice_twice p.numbers q.numbers; amounts = slice_twice p.amounts q.amounts }
+
+pub given_stays : {s s' : Sheet} {t t' : Tables} → SameSheet s s' → SameTables t t' → given (lent_by s') t' ≡ given (lent_by s) t
+given_stays {s} {s'} {t} {t'} p q =
+    rw (p.prices.long, p.numbers.long, p.amounts.long, q.amounts.long, q.labels.long, q.cents.long, q.heads.long, q.left.long, q.marks.long, q.nexts.long) refl

@@ -3,7 +3,9 @@
 --   TooFew, Left what is left once a call has taken its entries
 --   Fits         memory that suffices for the first `count` calls
 --   lending      memory as lists
+--   lent_by      what a sheet lends
 --   given        how much memory is lent
+--   SameSheet    the same slices, with as many entries
 --   Handed       a call that is handed what it takes
 --   HasRoom      a call that finds what it takes
 --   Moves        where the entries of the next call begin
@@ -13,13 +15,15 @@
 use Rattle.std.specs.Prelude.{◌≡◌, ℕ, ◌+◌, ◌<◌, ◌≤◌, ◌⊎◌, List, length, ℤ, Ok, Err, Result}
 use Rattle.records.specs.declared.refusal.Refusal.{Refusal}
 use Rattle.records.specs.declared.refusal.Refusal.TheVariants.{SliceTooShort}
-use Rattle.checks.specs.declared.lengths.Lengths.{Lengths}
+use Rattle.planning.specs.Planned.{SameSlice, lengths_of}
+use Rattle.planning.specs.declared.tables.Tables.{Tables}
 use Rattle.tally.specs.Tallies.{Tally}
 use Rattle.tally.specs.Runs.{Lent, call_at, prices_long, numbers_long, amounts_long, from, Beyond, Run, Sound, WholeRun}
 use Rattle.tally.specs.declared.answer.Answer.{Answer}
 use Rattle.tally.specs.declared.call.Call.{Call}
 use Rattle.tally.specs.declared.call.Call.TheVariants.{Report, Close, Reopen, Plan, ListStations, ListRuns, Read}
 use Rattle.board.specs.declared.entries.Entries.{Entries}
+use Rattle.board.specs.declared.sheet.Sheet.{Sheet}
 
 -- of the working tables, the entries for stations and for legs
 abbrev pub stations_long : Call → ℕ
@@ -70,9 +74,19 @@ pub record Fits (m : ℕ) (calls : List Call) (count : ℕ) (lent : Entries) : T
 abbrev pub lending : List ℤ → List ℕ → List ℕ → Lent
 lending ps ns xs = record { prices = ps; numbers = ns; amounts = xs }
 
+abbrev pub lent_by : Sheet → Lent
+lent_by sheet = lending sheet.prices.now sheet.numbers.now sheet.amounts.now
+
 -- with the lengths of the working tables
-abbrev pub given : Lent → Lengths → Entries
-given lent l = record { prices = length lent.prices; numbers = length lent.numbers; amounts = length lent.amounts; stations = l.station_entries; legs = l.leg_entries }
+abbrev pub given : Lent → Tables → Entries
+given lent tables =
+    let l = lengths_of lent.prices lent.numbers tables in
+    record { prices = length lent.prices; numbers = length lent.numbers; amounts = length lent.amounts; stations = l.station_entries; legs = l.leg_entries }
+
+pub record SameSheet (before after : Sheet) : Type 0 where
+  pub prices : SameSlice before.prices after.prices
+  pub numbers : SameSlice before.numbers after.numbers
+  pub amounts : SameSlice before.amounts after.amounts
 
 -- slices exactly as long as it says, and working tables at least as long
 pub record Handed (m : ℕ) (call : Call) (has : Entries) : Type 0 where

@@ -1,36 +1,27 @@
 // The calls of a board. Its memory is its own, for the largest network, so no call asks for more.
-ghost use Rattle.std.specs.Prelude.{◌≡◌, ◌≤◌, List, length, ℤ};
-ghost use Rattle.planning.specs.Planned.{lengths_of};
+ghost use Rattle.std.specs.Prelude.{◌≡◌, List, length, ℤ};
+ghost use Rattle.planning.specs.Planned.{SameTables, lengths_of};
 ghost use Rattle.tally.specs.Answers.{done, listed, planned};
 ghost use Rattle.tally.specs.Follows.{Follows, Papers, papers};
 ghost use Rattle.tally.specs.Tallies.{fresh};
 ghost use Rattle.tally.specs.declared.answer.Answer.TheVariants.{Amount};
 ghost use Rattle.tally.specs.declared.call.Call.TheVariants.{Close, ListRuns, ListStations, Read, Reopen, Report};
-ghost use Rattle.board.specs.Views.{Copied, plan_call, tally_of};
+ghost use Rattle.board.specs.Views.{plan_call, tally_of};
 
-use crate::sorts::{list_running, list_short};
+use crate::sorts::{RunningLegs, ShortStations};
+use listing::Kept;
 use network::{MOST_LEGS, MOST_STATIONS, Network, Office};
 use planning::{Tables, plan};
 use records::Refusal;
 
-// The first entries count: of the plan as many as there are legs, of each list as many as it is long.
+// Of the plan as many entries count as there are legs.
 #[derive(Drop)]
 pub struct Board<N> {
     pub(crate) net: N,
     pub(crate) plan: [u16; MOST_LEGS],
-    stations: [usize; MOST_STATIONS],
-    station_count: usize,
-    runs: [usize; MOST_LEGS],
-    run_count: usize,
+    stations: Kept<MOST_STATIONS>,
+    runs: Kept<MOST_LEGS>,
     marks: [bool; MOST_LEGS],
-}
-
-// Copies the first so many amounts.
-pub(crate) fn copy(legs: usize, from: &[u16], to: &mut [u16])
-    requires { (legs ≤ length from.now) × (legs ≤ length to.old) }
-    ensures { Copied legs from.now to.old to.new }
-{
-    to[..legs].copy_from_slice(&from[..legs]);
 }
 
 impl<N: Network> Board<N> {
@@ -42,10 +33,8 @@ impl<N: Network> Board<N> {
         Board {
             net,
             plan: [0; MOST_LEGS],
-            stations: [0; MOST_STATIONS],
-            station_count: 0,
-            runs: [0; MOST_LEGS],
-            run_count: 0,
+            stations: Kept::new(),
+            runs: Kept::new(),
             marks: [false; MOST_LEGS],
         }
     }
@@ -54,10 +43,7 @@ impl<N: Network> Board<N> {
     pub fn read(&self, leg: usize) -> Option<u16>
         ensures { (p : Papers) → Follows (tally_of N.Network.meaning self.now) (Read leg) (Amount result) p p (tally_of N.Network.meaning self.now) }
     {
-        if leg >= self.net.legs() {
-            return None;
-        }
-        Some(self.plan[leg])
+        self.plan[..self.net.legs()].get(leg).copied()
     }
 
     // Makes a new plan: the cheapest and, of the cheapest, the nearest to the one that stands.
@@ -65,32 +51,15 @@ impl<N: Network> Board<N> {
         &mut self,
         prices: &mut [i64],
         cut: &mut [usize],
-        tables: Tables<'_>,
+        tables: &mut Tables<'_>,
     ) -> Result<(u64, u64), Refusal>
-        ensures rules { Follows (tally_of N.Network.meaning self.old) (plan_call (lengths_of prices.old cut.old tables.entry.amounts.now tables.entry.labels.now tables.entry.cents.now tables.entry.heads.now tables.entry.left.now tables.entry.marks.now tables.entry.nexts.now)) (planned result) (papers prices.old cut.old) (papers prices.new cut.new) (tally_of N.Network.meaning self.new) }
+        ensures rules { Follows (tally_of N.Network.meaning self.old) (plan_call (lengths_of prices.old cut.old tables.old)) (planned result) (papers prices.old cut.old) (papers prices.new cut.new) (tally_of N.Network.meaning self.new) }
         ensures net { self.new.net ≡ self.old.net }
+        ensures stay { SameTables tables.old tables.new }
     {
         let legs = self.net.legs();
-        let Tables {
-            labels,
-            cents,
-            heads,
-            left,
-            marks,
-            amounts,
-            nexts,
-        } = tables;
-        let tables = Tables {
-            labels,
-            cents,
-            heads,
-            left,
-            marks,
-            amounts: &mut *amounts,
-            nexts,
-        };
         let answer = plan(&self.net, &self.plan[..legs], prices, cut, tables)?;
-        copy(legs, amounts, &mut self.plan);
+        self.plan[..legs].copy_from_slice(&tables.amounts[..legs]);
         Ok(answer)
     }
 
@@ -99,15 +68,9 @@ impl<N: Network> Board<N> {
         ensures rules { (prices : List ℤ) → Follows (tally_of N.Network.meaning self.old) (ListStations (length out.old)) (listed result) (papers prices out.old) (papers prices out.new) (tally_of N.Network.meaning self.new) }
         ensures net { self.new.net ≡ self.old.net }
     {
-        let count = list_short(
-            &self.net,
-            self.station_count,
-            &mut self.stations,
-            &mut self.marks,
-            out,
-        )?;
-        self.station_count = count;
-        Ok(count)
+        let short = ShortStations { net: &self.net };
+        let count = self.net.open_stations();
+        self.stations.list(&short, count, &mut self.marks, out)
     }
 
     // Lists the running legs.
@@ -116,16 +79,10 @@ impl<N: Network> Board<N> {
         ensures net { self.new.net ≡ self.old.net }
     {
         let legs = self.net.legs();
-        let count = list_running(
-            &self.plan[..legs],
-            legs,
-            self.run_count,
-            &mut self.runs,
-            &mut self.marks,
-            out,
-        )?;
-        self.run_count = count;
-        Ok(count)
+        let running = RunningLegs {
+            plan: &self.plan[..legs],
+        };
+        self.runs.list(&running, legs, &mut self.marks, out)
     }
 }
 

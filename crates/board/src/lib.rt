@@ -3,9 +3,10 @@
 
 pub mod board;
 pub mod entries;
-mod room;
 pub mod running;
+pub mod sheet;
 mod sorts;
 
 pub use board::Board;
 pub use running::run;
+pub use sheet::Sheet;

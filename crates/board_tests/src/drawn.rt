@@ -73,8 +73,8 @@ fn below(state: &mut u64, bound: u16) -> u16
 // A call on four open stations of five and six road legs of 14, one in a few of them beyond a limit.
 fn draw(state: &mut u64) -> Call {
     let kind = below(state, 16);
-    let number = below(state, 15) as usize;
-    let bikes = below(state, 25) as i32;
+    let number = usize::from(below(state, 15));
+    let bikes = i32::from(below(state, 25));
     match kind {
         0..5 => Call::Report {
             station: number % 5,
@@ -102,8 +102,8 @@ fn draw(state: &mut u64) -> Call {
 fn drawn(seed: u64) -> [Call; CALLS] {
     let mut state = seed;
     let mut calls = [Call::Read { leg: 0 }; CALLS];
-    for i in 0..CALLS {
-        calls[i] = draw(&mut state);
+    for call in calls.iter_mut() {
+        *call = draw(&mut state);
     }
     calls
 }

@@ -1,8 +1,8 @@
 // The memory that is lent to a run, all filled with something that no call may read.
 use board::entries::Entries;
-use board::run;
+use board::{Sheet, run};
 use chain_search::{Label, Links};
-use costs::{Bikes, Cents, Pair};
+use desk::Desk;
 use network::Office;
 use planning::Tables;
 use records::Refusal;
@@ -21,100 +21,69 @@ pub const ALL: Entries = Entries {
 // What every entry that is handed out is before a run.
 const UNTOUCHED: u8 = 77;
 
-// A label in the midst of a search.
-const STRAY: Label<Cents> = Label {
-    arrival: None,
-    better: None,
-    changed: true,
-};
-
-// The same in both kinds of cost.
-const STRAY_IN_BOTH: Label<Pair<Cents, Bikes>> = Label {
-    arrival: None,
-    better: None,
-    changed: true,
-};
-
 // Links that lead astray.
 const ASTRAY: Links = Links {
-    forth: 9,
-    back: 65535,
+    forth: Some(9),
+    back: Some(65535),
 };
 
-// What is handed out.
+// Leaves the tables as if in the midst of a planning.
+fn mislead(tables: &mut Tables<'_>) {
+    tables.amounts.fill(60000);
+    tables.labels.fill(Label {
+        changed: true,
+        ..Label::default()
+    });
+    tables.cents.fill(Label {
+        changed: true,
+        ..Label::default()
+    });
+    tables.heads.fill(ASTRAY);
+    tables.left.fill(-5);
+    tables.marks.fill(true);
+    tables.nexts.fill(ASTRAY);
+}
+
+// What a run answers and hands out, and its working tables.
 #[derive(Drop)]
-pub struct Sheet {
+pub struct Memory {
     pub answers: Vec<Answer>,
     pub prices: Vec<i64>,
     pub numbers: Vec<usize>,
     pub amounts: Vec<u16>,
+    desk: Desk,
 }
 
-impl Sheet {
-    // A sheet for so many answers, and with so many entries.
-    pub(crate) fn new(heap: Global, answers: usize, lent: Entries) -> Result<Sheet, AllocError> {
-        Ok(Sheet {
+impl Memory {
+    // Memory for so many answers, and with so many entries.
+    pub(crate) fn new(heap: Global, answers: usize, lent: Entries) -> Result<Memory, AllocError> {
+        Ok(Memory {
             answers: vec![in heap; Answer::Listed {
-                count: UNTOUCHED as usize
+                count: usize::from(UNTOUCHED)
             }; answers]?,
-            prices: vec![in heap; UNTOUCHED as i64; lent.prices]?,
-            numbers: vec![in heap; UNTOUCHED as usize; lent.numbers]?,
-            amounts: vec![in heap; UNTOUCHED as u16; lent.amounts]?,
+            prices: vec![in heap; i64::from(UNTOUCHED); lent.prices]?,
+            numbers: vec![in heap; usize::from(UNTOUCHED); lent.numbers]?,
+            amounts: vec![in heap; u16::from(UNTOUCHED); lent.amounts]?,
+            desk: Desk::new(heap, lent.stations, lent.legs)?,
         })
     }
-}
 
-// The working tables.
-#[derive(Drop)]
-pub struct Desk {
-    amounts: Vec<u16>,
-    labels: Vec<Label<Pair<Cents, Bikes>>>,
-    cents: Vec<Label<Cents>>,
-    heads: Vec<Links>,
-    left: Vec<i64>,
-    marks: Vec<bool>,
-    nexts: Vec<Links>,
-}
-
-impl Desk {
-    // Tables with so many entries.
-    pub(crate) fn new(heap: Global, lent: Entries) -> Result<Desk, AllocError> {
-        Ok(Desk {
-            amounts: vec![in heap; 60000u16; lent.legs]?,
-            labels: vec![in heap; STRAY_IN_BOTH; lent.stations]?,
-            cents: vec![in heap; STRAY; lent.stations]?,
-            heads: vec![in heap; ASTRAY; lent.stations]?,
-            left: vec![in heap; -5i64; lent.stations]?,
-            marks: vec![in heap; true; lent.stations]?,
-            nexts: vec![in heap; ASTRAY; lent.legs]?,
-        })
+    // Makes the calls on a new board.
+    pub(crate) fn run<N: Office + Drop>(&mut self, net: N, calls: &[Call]) -> Result<(), Refusal> {
+        let mut tables = self.desk.lend();
+        mislead(&mut tables);
+        let mut sheet = Sheet {
+            prices: self.prices.as_mut_slice(),
+            numbers: self.numbers.as_mut_slice(),
+            amounts: self.amounts.as_mut_slice(),
+        };
+        let (_, result) = run(
+            net,
+            calls,
+            self.answers.as_mut_slice(),
+            &mut sheet,
+            &mut tables,
+        );
+        result
     }
-}
-
-// Makes the calls on a new board.
-pub(crate) fn make<N: Office + Drop>(
-    net: N,
-    calls: &[Call],
-    sheet: &mut Sheet,
-    desk: &mut Desk,
-) -> Result<(), Refusal> {
-    let tables = Tables {
-        amounts: desk.amounts.as_mut_slice(),
-        labels: desk.labels.as_mut_slice(),
-        cents: desk.cents.as_mut_slice(),
-        heads: desk.heads.as_mut_slice(),
-        left: desk.left.as_mut_slice(),
-        marks: desk.marks.as_mut_slice(),
-        nexts: desk.nexts.as_mut_slice(),
-    };
-    let (_, result) = run(
-        net,
-        calls,
-        sheet.answers.as_mut_slice(),
-        sheet.prices.as_mut_slice(),
-        sheet.numbers.as_mut_slice(),
-        sheet.amounts.as_mut_slice(),
-        tables,
-    );
-    result
 }

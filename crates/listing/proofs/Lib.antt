@@ -1,5 +1,5 @@
 pub mod Standing
 pub mod Entering
 pub mod Determining
-pub mod Writing
+pub mod Marking
 pub mod Parting

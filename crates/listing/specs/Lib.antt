@@ -1,3 +1,4 @@
 pub mod Lists
 pub mod Listings
 pub mod Example
+pub mod Writings

@@ -8,41 +8,51 @@ use Rattle.network.specs.Nets.{Net}
 use Rattle.network.specs.Offices.{reported, remarked}
 use Rattle.plans.specs.Plans.{stations, Obeys, cents, difference, CheapestThenNearest}
 use Rattle.plans.specs.Cuts.{Cut}
-use Rattle.chain_prices.specs.Priced.{Prices}
+use Rattle.prices.specs.Priced.{Prices}
 use Rattle.examples.specs.Networks.{T_shut}
 use Rattle.examples.specs.Examples.{OnlyBest}
 use Rattle.examples.proofs.Ways.{no_way}
 use Rattle.examples.proofs.Severed.{cuts}
 use Rattle.tally.specs.Tallies.{Tally, with_meaning, with_plan, with_stations, short_list}
-use Rattle.tally.specs.Follows.{Papers, papers, written, fault, PlanAnswers}
+use Rattle.tally.specs.Follows.{Papers, papers, written, fault, Accepts, PlanAnswers}
 use Rattle.tally.specs.declared.answer.Answer.{Answer}
 use Rattle.tally.specs.declared.answer.Answer.TheVariants.{Done, Refused, Planned, Listed, Amount}
+use Rattle.tally.specs.declared.call.Call.{Call}
 use Rattle.tally.specs.declared.call.Call.TheVariants.{Report, Close, Plan, ListStations}
 use Rattle.tally.proofs.Naming.{same_refused}
-use Rattle.run_examples.specs.After.{After, AfterPlanning, AfterListing, NewPlan, CutOff, Alters, HandsOut}
+use Rattle.run_examples.specs.After.{Outcome, After, AfterPlanning, AfterListing, NewPlan, CutOff, Alters, HandsOut}
 use Rattle.run_examples.proofs.Passing.{follows, deserved, passes}
 use Rattle.run_examples.proofs.Writing.{prices_entered, prices_are, parts, taken}
 
--- ---- closings and reports
-pub after_closing : (t : Tally) (k : ℕ) (net : Net) (next : Tally → Type 0) → fault t (Close k) ≡ None → remarked t.meaning k Shut ≡ net → next (with_meaning t net) → After t (Close k) (Alters t net) next
-after_closing t k net next e m h = record {
-  possible = λ q. (Done, q, with_meaning t (remarked t.meaning k Shut), follows t (Close k) Done q q (with_meaning t (remarked t.meaning k Shut)) e (refl, refl, refl));
-  exactly = λ x q q' u. (
-    λ F. let a = F.accepted e in record { answered = a.0; slices_stay = a.1; becomes = a.2 ∙ ap (with_meaning t) m },
-    λ o. follows t (Close k) x q q' u e (o.answered, o.slices_stay, o.becomes ∙ ap (with_meaning t) (sym m)),
-  );
-  goes_on = λ x q q' u F. subst next (sym ((F.accepted e).2 ∙ ap (with_meaning t) m)) h;
+-- a call that meets no fault: what is accepted is the outcome, and the run goes on from there
+allowed : (t : Tally) (call : Call) (outcome : Outcome) (next : Tally → Type 0) → fault t call ≡ None
+    → ((q : Papers) → (x : Answer) × (q' : Papers) × (u : Tally) × outcome x q q' u)
+    → ((x : Answer) (q q' : Papers) (u : Tally) → Accepts t call x q q' u ↔ outcome x q q' u)
+    → ((x : Answer) (q q' : Papers) (u : Tally) → outcome x q q' u → next u) → After t call outcome next
+allowed t call outcome next e p s n = record {
+  possible = λ q. let a = p q in (a.0, a.1, a.2, follows t call a.0 q a.1 a.2 e ((s a.0 q a.1 a.2).1 a.3));
+  exactly = λ x q q' u. (λ F. (s x q q' u).0 (F.accepted e), λ o. follows t call x q q' u e ((s x q q' u).1 o));
+  goes_on = λ x q q' u F. n x q q' u ((s x q q' u).0 (F.accepted e));
 }
 
+-- ---- closings and reports
+altered : (t : Tally) (call : Call) (made net : Net) (next : Tally → Type 0) → fault t call ≡ None
+    → ((x : Answer) (q q' : Papers) (u : Tally) → Accepts t call x q q' u ↔ ((x ≡ Done) × (q' ≡ q) × (u ≡ with_meaning t made)))
+    → made ≡ net → next (with_meaning t net) → After t call (Alters t net) next
+altered t call made net next e s m h =
+    allowed t call (Alters t net) next e
+    (λ q. (Done, q, with_meaning t net, record { answered = refl; slices_stay = refl; becomes = refl }))
+    (λ x q q' u. (
+      λ a. let b = (s x q q' u).0 a in record { answered = b.0; slices_stay = b.1; becomes = b.2 ∙ ap (with_meaning t) m },
+      λ o. (s x q q' u).1 (o.answered, o.slices_stay, o.becomes ∙ ap (with_meaning t) (sym m)),
+    ))
+    (λ x q q' u o. subst next (sym o.becomes) h)
+
+pub after_closing : (t : Tally) (k : ℕ) (net : Net) (next : Tally → Type 0) → fault t (Close k) ≡ None → remarked t.meaning k Shut ≡ net → next (with_meaning t net) → After t (Close k) (Alters t net) next
+after_closing t k net next e m h = altered t (Close k) (remarked t.meaning k Shut) net next e (λ x q q' u. (λ a. a, λ a. a)) m h
+
 pub after_report : (t : Tally) (s : ℕ) (b : ℤ) (net : Net) (next : Tally → Type 0) → fault t (Report s b) ≡ None → reported t.meaning s b ≡ net → next (with_meaning t net) → After t (Report s b) (Alters t net) next
-after_report t s b net next e m h = record {
-  possible = λ q. (Done, q, with_meaning t (reported t.meaning s b), follows t (Report s b) Done q q (with_meaning t (reported t.meaning s b)) e (refl, refl, refl));
-  exactly = λ x q q' u. (
-    λ F. let a = F.accepted e in record { answered = a.0; slices_stay = a.1; becomes = a.2 ∙ ap (with_meaning t) m },
-    λ o. follows t (Report s b) x q q' u e (o.answered, o.slices_stay, o.becomes ∙ ap (with_meaning t) (sym m)),
-  );
-  goes_on = λ x q q' u F. subst next (sym ((F.accepted e).2 ∙ ap (with_meaning t) m)) h;
-}
+after_report t s b net next e m h = altered t (Report s b) (reported t.meaning s b) net next e (λ x q q' u. (λ a. a, λ a. a)) m h
 
 -- ---- lists
 abbrev handed : Papers → List ℕ → Papers
@@ -50,16 +60,13 @@ handed q vs = papers q.prices (written vs q.numbers)
 
 pub after_listing : (t : Tally) (vs : List ℕ) (next : Tally → Type 0) → short_list t ≡ vs → next (with_stations t vs) → AfterListing t (HandsOut t vs) next
 after_listing t vs next m h n l =
-    let e : fault t (ListStations n) ≡ None = ap (λ b. cond b (Some (11, 0)) None) (le-ltb n t.meaning.open_stations l) in
-    let us : List ℕ = short_list t in
-    record {
-      possible = λ q. (Listed (length us), handed q us, with_stations t us, follows t (ListStations n) (Listed (length us)) q (handed q us) (with_stations t us) e (refl, refl, refl));
-      exactly = λ x q q' u. (
-        λ F. let a = F.accepted e in record { answered = a.0 ∙ ap (λ (ws : List ℕ). Listed (length ws)) m; handed_out = a.1 ∙ ap (handed q) m; remembered = a.2 ∙ ap (with_stations t) m },
-        λ o. follows t (ListStations n) x q q' u e (o.answered ∙ ap (λ (ws : List ℕ). Listed (length ws)) (sym m), o.handed_out ∙ ap (handed q) (sym m), o.remembered ∙ ap (with_stations t) (sym m)),
-      );
-      goes_on = λ x q q' u F. subst next (sym ((F.accepted e).2 ∙ ap (with_stations t) m)) h;
-    }
+    allowed t (ListStations n) (HandsOut t vs) next (ap (λ b. cond b (Some (11, 0)) None) (le-ltb n t.meaning.open_stations l))
+    (λ q. (Listed (length vs), handed q vs, with_stations t vs, record { answered = refl; handed_out = refl; remembered = refl }))
+    (λ x q q' u. (
+      λ a. record { answered = a.0 ∙ ap (λ (ws : List ℕ). Listed (length ws)) m; handed_out = a.1 ∙ ap (handed q) m; remembered = a.2 ∙ ap (with_stations t) m },
+      λ o. (o.answered ∙ ap (λ (ws : List ℕ). Listed (length ws)) (sym m), o.handed_out ∙ ap (handed q) (sym m), o.remembered ∙ ap (with_stations t) (sym m)),
+    ))
+    (λ x q q' u o. subst next (sym o.remembered) h)
 
 -- ---- plannings that are accepted
 new_plan : (t : Tally) (plan : List ℕ) (c d : ℕ) (x : Answer) (q q' : Papers) (u : Tally) → OnlyBest t.meaning t.plan plan c d → PlanAnswers t x q q' u → NewPlan t plan c d x q q' u
@@ -97,15 +104,13 @@ replaced t x y q q' u v e f a = subst (λ (z : Answer). PlanAnswers t z q q' u) 
 pub after_planning : (t : Tally) (plan : List ℕ) (c d : ℕ) (next : Tally → Type 0) → deserved t.meaning ≡ None → OnlyBest t.meaning t.plan plan c d
     → next (with_plan t plan) → AfterPlanning t (NewPlan t plan c d) next
 after_planning t plan c d next m b h p k s l hp hk hs hl =
-    let e : fault t (Plan p k s l) ≡ None = passes t p k s l m hp hk hs hl in
-    record {
-      possible = λ q. let a = planned t plan c d q b in (Planned c d, a.0, with_plan t plan, follows t (Plan p k s l) (Planned c d) q a.0 (with_plan t plan) e a.1);
-      exactly = λ x q q' u. (
-        λ F. new_plan t plan c d x q q' u b (F.accepted e),
-        λ o. follows t (Plan p k s l) x q q' u e (replaced t x (Planned c d) q q' u (with_plan t plan) o.answered o.stands (accepted t plan c d q q' b o.priced o.prices_beyond o.cut_stays)),
-      );
-      goes_on = λ x q q' u F. subst next (sym (new_plan t plan c d x q q' u b (F.accepted e)).stands) h;
-    }
+    allowed t (Plan p k s l) (NewPlan t plan c d) next (passes t p k s l m hp hk hs hl)
+    (λ q. let a = planned t plan c d q b in (Planned c d, a.0, with_plan t plan, new_plan t plan c d (Planned c d) q a.0 (with_plan t plan) b a.1))
+    (λ x q q' u. (
+      new_plan t plan c d x q q' u b,
+      λ o. replaced t x (Planned c d) q q' u (with_plan t plan) o.answered o.stands (accepted t plan c d q q' b o.priced o.prices_beyond o.cut_stays),
+    ))
+    (λ x q q' u o. subst next (sym o.stands) h)
 
 -- an outcome that says more, where that follows
 pub with_more : (t : Tally) (outcome other : Answer → Papers → Papers → Tally → Type 0) (next : Tally → Type 0) → ((x : Answer) (q q' : Papers) (u : Tally) → outcome x q q' u ↔ other x q q' u)
@@ -161,13 +166,8 @@ either t q q' m (inr f) g = refused t 1 0 q q' m ((cuts (1 ∷ 0 ∷ [])).1 (inr
 
 pub after_cut : (t : Tally) (next : Tally → Type 0) → t.meaning ≡ T_shut → next t → AfterPlanning t (CutOff t) next
 after_cut t next m h p k s l hp hk hs hl =
-    let e : fault t (Plan p k s l) ≡ None = passes t p k s l (ap deserved m) hp hk hs hl in
     let no : Answer = Refused (NoPlanObeys 2) in
-    record {
-      possible = λ q. (no, handed q (0 ∷ 1 ∷ []), t, follows t (Plan p k s l) no q (handed q (0 ∷ 1 ∷ [])) t e (either t q (handed q (0 ∷ 1 ∷ [])) m (inl refl) refl));
-      exactly = λ x q q' u. (
-        λ F. cut_off t x q q' u m (F.accepted e),
-        λ o. follows t (Plan p k s l) x q q' u e (replaced t x no q q' u t o.answered o.tally_stays (either t q q' m o.cut o.prices_stay)),
-      );
-      goes_on = λ x q q' u F. subst next (sym (cut_off t x q q' u m (F.accepted e)).tally_stays) h;
-    }
+    allowed t (Plan p k s l) (CutOff t) next (passes t p k s l (ap deserved m) hp hk hs hl)
+    (λ q. (no, handed q (0 ∷ 1 ∷ []), t, record { answered = refl; cut = inl refl; prices_stay = refl; tally_stays = refl }))
+    (λ x q q' u. (cut_off t x q q' u m, λ o. replaced t x no q q' u t o.answered o.tally_stays (either t q q' m o.cut o.prices_stay)))
+    (λ x q q' u o. subst next (sym o.tally_stays) h)

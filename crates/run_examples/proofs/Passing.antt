@@ -1,5 +1,6 @@
 -- A call that meets no fault, and a planning that meets none because all that is handed in is long enough.
 use Rattle.std.proofs.Common.{◌≡◌, ℕ, ◌≤◌, Bool, false, cond, ◌||◌, ltb, length, Some, None, Option, sym, refl, ap, ◌∙◌, le-ltb}
+use Rattle.std.proofs.lemmas.Option.{none-some}
 use Rattle.std.specs.Option.{option_map}
 use Rattle.records.specs.Refusals.{number, place}
 use Rattle.records.specs.declared.refusal.Refusal.{Refusal}
@@ -12,10 +13,9 @@ use Rattle.tally.specs.Follows.{Papers, fault, Accepts, Follows}
 use Rattle.tally.specs.declared.answer.Answer.{Answer}
 use Rattle.tally.specs.declared.call.Call.{Call}
 use Rattle.tally.specs.declared.call.Call.TheVariants.{Plan}
-use Rattle.tally.proofs.Naming.{none_some}
 
 pub follows : (t : Tally) (call : Call) (x : Answer) (q q' : Papers) (t' : Tally) → fault t call ≡ None → Accepts t call x q q' t' → Follows t call x q q' t'
-follows t call x q q' t' e a = record { refused = λ f g. none_some f (sym e ∙ g); accepted = λ _. a }
+follows t call x q q' t' e a = record { refused = λ f g. absurd (none-some f (sym e ∙ g)); accepted = λ _. a }
 
 -- what a planning deserves if all that is handed in is long enough
 abbrev pub deserved : Net → Option Refusal

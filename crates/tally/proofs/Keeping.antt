@@ -1,19 +1,14 @@
 -- Every tally of a run has one amount for each leg and lists that name nobody twice.
 use Rattle.std.proofs.Common.{◌≡◌, ℕ, length, Some, None, Option, sym, refl, ap, ◌∙◌, subst, length-set}
-use lib.ListN.{length-replicate}
-use Rattle.network.specs.Nets.{Net}
 use Rattle.listing.proofs.Entering.{keeps_order}
 use Rattle.theory.specs.Walks.{Distinct}
-use Rattle.tally.specs.Tallies.{Tally, fresh, short, runs, short_list, running_list}
+use Rattle.tally.specs.Tallies.{Tally, short, runs, short_list, running_list}
 use Rattle.tally.specs.Follows.{Papers, fault, PlanAnswers, Accepts, Follows}
 use Rattle.tally.specs.Runs.{Sound}
 use Rattle.tally.specs.declared.answer.Answer.{Answer}
 use Rattle.tally.specs.declared.answer.Answer.TheVariants.{Done, Refused, Planned, Listed, Amount}
 use Rattle.tally.specs.declared.call.Call.{Call}
 use Rattle.tally.specs.declared.call.Call.TheVariants.{Report, Close, Reopen, Plan, ListStations, ListRuns, Read}
-
-pub fresh_sound : (net : Net) → Sound (length net.legs) (fresh net)
-fresh_sound net = record { legs_stay = refl; one_each = length-replicate (length net.legs) 0; stations_once = tt; runs_once = tt }
 
 short_once : (t : Tally) → Distinct t.station_list → Distinct (short_list t)
 short_once t d = (keeps_order (short t.meaning) t.meaning.open_stations t.station_list d).once

@@ -1,5 +1,6 @@
 -- A refusal is known by its number and place.
-use Rattle.std.proofs.Common.{◌≡◌, ℕ, cond, eqb, Some, None, Option, sym, refl, ap, ◌∙◌, arith}
+use Rattle.std.proofs.Common.{◌≡◌, ℕ, cond, eqb, Some, None, Option, sym, refl, ap, ◌∙◌}
+use Rattle.std.proofs.lemmas.Option.{none-some}
 use Rattle.records.specs.Refusals.{number, place}
 use Rattle.records.specs.declared.refusal.Refusal.{Refusal}
 use Rattle.records.specs.declared.refusal.Refusal.TheVariants.{TextTooLong, LineOutOfForm, LineOutOfOrder, FieldOutOfRange, TablesTooShort, ArcsMiscounted, StationNotOpen, BalanceOutOfRange, NotARoadLeg, MarkUnchanged, SliceTooShort, SenselessLeg, BalanceTooLarge, UnevenBalances, NoPlanObeys}
@@ -31,19 +32,16 @@ named (BalanceTooLarge station) = refl
 named UnevenBalances = refl
 named (NoPlanObeys cut) = refl
 
-pub none_some : {X : Type 0} {P : Type 0} (x : X) → None ≡ Some x → P
-none_some x e = let z : ◌≡◌ {A = ℕ} 0 1 = cc in absurd (omega arith)
-
 abbrev answer_by : Option (ℕ × ℕ) → Answer
 answer_by None = Done
 answer_by (Some f) = Refused (by_name f.0 f.1)
 
 refused_is : (x : Answer) (f : ℕ × ℕ) → refusal_of x ≡ Some f → x ≡ answer_by (Some f)
-refused_is Done f e = none_some f e
+refused_is Done f e = absurd (none-some f e)
 refused_is (Refused r) f e = ap (λ s. Refused s) (sym (named r)) ∙ ap answer_by e
-refused_is (Planned c d) f e = none_some f e
-refused_is (Listed k) f e = none_some f e
-refused_is (Amount x) f e = none_some f e
+refused_is (Planned c d) f e = absurd (none-some f e)
+refused_is (Listed k) f e = absurd (none-some f e)
+refused_is (Amount x) f e = absurd (none-some f e)
 
 -- two answers that tell the same refusal are the same
 pub same_refused : (x y : Answer) (f : ℕ × ℕ) → refusal_of x ≡ Some f → refusal_of y ≡ Some f → x ≡ y

@@ -2,6 +2,7 @@
 use Rattle.std.proofs.Common.{◌≡◌, ℕ, ◌<◌, Bool, true, false, cond, ltb, List, length, Some, None, Option, sym, refl, ap, ◌∙◌, subst, arith, lit<}
 use Rattle.std.specs.List.{slice_get}
 use Rattle.std.specs.Option.{option_map}
+use Rattle.std.proofs.lemmas.Option.{none-some}
 use Rattle.records.specs.Refusals.{number, place}
 use Rattle.records.specs.declared.refusal.Refusal.{Refusal}
 use Rattle.records.specs.declared.refusal.Refusal.TheVariants.{SenselessLeg, BalanceTooLarge}
@@ -18,38 +19,19 @@ use Rattle.tally.specs.declared.answer.Answer.{Answer}
 use Rattle.tally.specs.declared.answer.Answer.TheVariants.{Done, Refused, Planned, Listed, Amount}
 use Rattle.tally.specs.declared.call.Call.{Call}
 use Rattle.tally.specs.declared.call.Call.TheVariants.{Report, Close, Reopen, Plan, ListStations, ListRuns, Read}
-use Rattle.tally.proofs.Naming.{none_some}
 
--- an answer that is no planning's
-not_planned : {P : Type 0} {x : Answer} (c d : ℕ) → x ≡ Planned c d → x ≡ Done → P
-not_planned c d e h = let z : ◌≡◌ {A = ℕ} 0 1 = cc in absurd (omega arith)
-
-not_listed : {P : Type 0} {x : Answer} (c d k : ℕ) → x ≡ Planned c d → x ≡ Listed k → P
-not_listed c d k e h = let z : ◌≡◌ {A = ℕ} 0 1 = cc in absurd (omega arith)
-
-not_read : {P : Type 0} {x : Answer} (c d : ℕ) (o : Option ℕ) → x ≡ Planned c d → x ≡ Amount o → P
-not_read c d o e h = let z : ◌≡◌ {A = ℕ} 0 1 = cc in absurd (omega arith)
-
-done_not : {P : Type 0} {x : Answer} (r : Refusal) → x ≡ Refused r → x ≡ Done → P
-done_not r e h = let z : ◌≡◌ {A = ℕ} 0 1 = cc in absurd (omega arith)
-
-listed_not : {P : Type 0} {x : Answer} (r : Refusal) (k : ℕ) → x ≡ Refused r → x ≡ Listed k → P
-listed_not r k e h = let z : ◌≡◌ {A = ℕ} 0 1 = cc in absurd (omega arith)
-
-read_not : {P : Type 0} {x : Answer} (r : Refusal) (o : Option ℕ) → x ≡ Refused r → x ≡ Amount o → P
-read_not r o e h = let z : ◌≡◌ {A = ℕ} 0 1 = cc in absurd (omega arith)
-
+-- each kind of call has answers of its own
 planned_accepts : (t : Tally) (call : Call) (x : Answer) (c d : ℕ) (p p' : Papers) (t' : Tally) → x ≡ Planned c d → Accepts t call x p p' t' → PlanAnswers t (Planned c d) p p' t'
-planned_accepts t (Report s b) x c d p p' t' e a = not_planned c d e a.0
-planned_accepts t (Close k) x c d p p' t' e a = not_planned c d e a.0
-planned_accepts t (Reopen k) x c d p p' t' e a = not_planned c d e a.0
+planned_accepts t (Report s b) x c d p p' t' e a = let h = a.0 in cc
+planned_accepts t (Close k) x c d p p' t' e a = let h = a.0 in cc
+planned_accepts t (Reopen k) x c d p p' t' e a = let h = a.0 in cc
 planned_accepts t (Plan q n s l) x c d p p' t' e a = subst (λ (y : Answer). PlanAnswers t y p p' t') e a
-planned_accepts t (ListStations n) x c d p p' t' e a = not_listed c d _ e a.0
-planned_accepts t (ListRuns n) x c d p p' t' e a = not_listed c d _ e a.0
-planned_accepts t (Read k) x c d p p' t' e a = not_read c d _ e a.0
+planned_accepts t (ListStations n) x c d p p' t' e a = let h = a.0 in cc
+planned_accepts t (ListRuns n) x c d p p' t' e a = let h = a.0 in cc
+planned_accepts t (Read k) x c d p p' t' e a = let h = a.0 in cc
 
 planned_by : (o : Option (ℕ × ℕ)) (t : Tally) (call : Call) (x : Answer) (c d : ℕ) (p p' : Papers) (t' : Tally) → fault t call ≡ o → x ≡ Planned c d → Follows t call x p p' t' → PlanAnswers t (Planned c d) p p' t'
-planned_by (Some f) t call x c d p p' t' h e F = none_some f (sym (ap refusal_of e) ∙ (F.refused f h).0)
+planned_by (Some f) t call x c d p p' t' h e F = absurd (none-some f (sym (ap refusal_of e) ∙ (F.refused f h).0))
 planned_by None t call x c d p p' t' h e F = planned_accepts t call x c d p p' t' e (F.accepted h)
 
 -- cents and difference are a planning's answer
@@ -57,13 +39,13 @@ pub planned_says : (t : Tally) (call : Call) (x : Answer) (c d : ℕ) (p p' : Pa
 planned_says t call x c d p p' t' e F = planned_by (fault t call) t call x c d p p' t' refl e F
 
 refused_accepts : (t : Tally) (call : Call) (x : Answer) (r : Refusal) (p p' : Papers) (t' : Tally) → x ≡ Refused r → Accepts t call x p p' t' → PlanAnswers t (Refused r) p p' t'
-refused_accepts t (Report s b) x r p p' t' e a = done_not r e a.0
-refused_accepts t (Close k) x r p p' t' e a = done_not r e a.0
-refused_accepts t (Reopen k) x r p p' t' e a = done_not r e a.0
+refused_accepts t (Report s b) x r p p' t' e a = let h = a.0 in cc
+refused_accepts t (Close k) x r p p' t' e a = let h = a.0 in cc
+refused_accepts t (Reopen k) x r p p' t' e a = let h = a.0 in cc
 refused_accepts t (Plan q n s l) x r p p' t' e a = subst (λ (y : Answer). PlanAnswers t y p p' t') e a
-refused_accepts t (ListStations n) x r p p' t' e a = listed_not r _ e a.0
-refused_accepts t (ListRuns n) x r p p' t' e a = listed_not r _ e a.0
-refused_accepts t (Read k) x r p p' t' e a = read_not r _ e a.0
+refused_accepts t (ListStations n) x r p p' t' e a = let h = a.0 in cc
+refused_accepts t (ListRuns n) x r p p' t' e a = let h = a.0 in cc
+refused_accepts t (Read k) x r p p' t' e a = let h = a.0 in cc
 
 unaltered_by : (o : Option (ℕ × ℕ)) (t : Tally) (call : Call) (x : Answer) (r : Refusal) (p p' : Papers) (t' : Tally) → fault t call ≡ o → x ≡ Refused r → Follows t call x p p' t' → t' ≡ t
 unaltered_by (Some f) t call x r p p' t' h e F = (F.refused f h).2
@@ -86,7 +68,7 @@ plan_found t call x p p' t' q c s l plan e h o F = found t x p p' t' plan o (sub
 
 -- a list was handed out by a call that met no fault
 listed_by : (o : Option (ℕ × ℕ)) (t : Tally) (call : Call) (x : Answer) (k : ℕ) (p p' : Papers) (t' : Tally) → fault t call ≡ o → x ≡ Listed k → Follows t call x p p' t' → fault t call ≡ None
-listed_by (Some f) t call x k p p' t' h e F = none_some f (sym (ap refusal_of e) ∙ (F.refused f h).0)
+listed_by (Some f) t call x k p p' t' h e F = absurd (none-some f (sym (ap refusal_of e) ∙ (F.refused f h).0))
 listed_by None t call x k p p' t' h e F = h
 
 pub listed_none : (t : Tally) (call : Call) (x : Answer) (k : ℕ) (p p' : Papers) (t' : Tally) → x ≡ Listed k → Follows t call x p p' t' → fault t call ≡ None

@@ -4,3 +4,4 @@ pub mod Follows
 pub mod Model
 pub mod Laws
 pub mod Runs
+pub mod Texts

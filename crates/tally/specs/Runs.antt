@@ -20,7 +20,7 @@ use Rattle.records.specs.declared.refusal.Refusal.{Refusal}
 use Rattle.theory.specs.Walks.{Distinct}
 use Rattle.plans.specs.Plans.{sum_below, Obeys, cents, difference, CheapestThenNearest}
 use Rattle.plans.specs.Cuts.{Cut}
-use Rattle.chain_prices.specs.Priced.{Prices}
+use Rattle.prices.specs.Priced.{Prices}
 use Rattle.listing.specs.Lists.{Ordered}
 use Rattle.tally.specs.Tallies.{Tally, short, runs}
 use Rattle.tally.specs.Answers.{refusal_of}

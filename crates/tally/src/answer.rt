@@ -1,7 +1,12 @@
 // The answers of a board.
-use records::Refusal;
+ghost use Rattle.std.specs.Prelude.{◌≡◌, Some};
+ghost use Rattle.tally.specs.Answers.{done, listed, planned};
+ghost use Rattle.tally.specs.Texts.{answer_text};
 
-#[derive(Clone, Copy)]
+use records::Refusal;
+use std::fmt;
+
+#[derive(Clone, Copy, PartialEq, Eq, Debug)]
 pub enum Answer {
     // a report, a closing or a reopening is accepted
     Done,
@@ -13,4 +18,57 @@ pub enum Answer {
     Listed { count: usize },
     // the standing amount of a leg, absent where there is no such leg
     Amount { bikes: Option<u16> },
+}
+
+// The answer to a report, a closing or a reopening.
+impl From<Result<(), Refusal>> for Answer {
+    ghost from_gives = { λ res answer. answer ≡ done res };
+
+    fn from(res: Result<(), Refusal>) -> Answer {
+        match res {
+            Ok(()) => Answer::Done,
+            Err(refusal) => Answer::Refused { refusal },
+        }
+    }
+}
+
+// The answer to a listing.
+impl From<Result<usize, Refusal>> for Answer {
+    ghost from_gives = { λ res answer. answer ≡ listed res };
+
+    fn from(res: Result<usize, Refusal>) -> Answer {
+        match res {
+            Ok(count) => Answer::Listed { count },
+            Err(refusal) => Answer::Refused { refusal },
+        }
+    }
+}
+
+// The answer to a planning.
+impl From<Result<(u64, u64), Refusal>> for Answer {
+    ghost from_gives = { λ res answer. answer ≡ planned res };
+
+    fn from(res: Result<(u64, u64), Refusal>) -> Answer {
+        match res {
+            Ok((cents, difference)) => Answer::Planned { cents, difference },
+            Err(refusal) => Answer::Refused { refusal },
+        }
+    }
+}
+
+impl fmt::Display for Answer {
+    ghost output = { λ answer. Some (answer_text answer) };
+
+    fn fmt<W: fmt::Write>(&self, f: &mut fmt::Formatter<W>) -> fmt::Result {
+        match *self {
+            Answer::Done => write!(f, "done"),
+            Answer::Refused { refusal } => write!(f, "{refusal}"),
+            Answer::Planned { cents, difference } => {
+                write!(f, "{cents} cents, difference {difference}")
+            }
+            Answer::Listed { count } => write!(f, "{count} listed"),
+            Answer::Amount { bikes: Some(bikes) } => write!(f, "{bikes}"),
+            Answer::Amount { bikes: None } => write!(f, "absent"),
+        }
+    }
 }

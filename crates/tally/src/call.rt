@@ -1,6 +1,10 @@
 // The calls of a board. A slice that is handed in with a call is given by its length.
+ghost use Rattle.std.specs.Prelude.{Some};
+ghost use Rattle.tally.specs.Texts.{call_text};
 
-#[derive(Clone, Copy)]
+use std::fmt;
+
+#[derive(Clone, Copy, PartialEq, Eq, Debug)]
 pub enum Call {
     // an open station reports its balance
     Report {
@@ -34,4 +38,25 @@ pub enum Call {
     Read {
         leg: usize,
     },
+}
+
+impl fmt::Display for Call {
+    ghost output = { λ call. Some (call_text call) };
+
+    fn fmt<W: fmt::Write>(&self, f: &mut fmt::Formatter<W>) -> fmt::Result {
+        match *self {
+            Call::Report { station, balance } => write!(f, "report {station} {balance}"),
+            Call::Close { leg } => write!(f, "close {leg}"),
+            Call::Reopen { leg } => write!(f, "reopen {leg}"),
+            Call::Plan {
+                prices,
+                cut,
+                station_entries,
+                leg_entries,
+            } => write!(f, "plan {prices} {cut} {station_entries} {leg_entries}"),
+            Call::ListStations { length } => write!(f, "stations {length}"),
+            Call::ListRuns { length } => write!(f, "runs {length}"),
+            Call::Read { leg } => write!(f, "read {leg}"),
+        }
+    }
 }

@@ -12,17 +12,13 @@ pub use call::Call;
 
 // The tally after a call is computed from the one before it, the call and, after an accepted
 // planning, the amounts that reads then answer.
-pub fn tallies_are_computed() -> u8
+pub fn tallies_are_computed()
     ensures { Computed }
-{
-    0
-}
+{}
 
 // Two boards with the same tally that get the same call refuse it by the same number or both accept
 // it. Where their plans are the same afterwards, so are their tallies and, unless no plan obeys, their
 // answers.
-pub fn calls_determine_answers() -> u8
+pub fn calls_determine_answers()
     ensures { Determined }
-{
-    0
-}
+{}

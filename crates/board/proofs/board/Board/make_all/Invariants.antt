@@ -1,5 +1,6 @@
 use Rattle.std.proofs.Common.{length}
-use Rattle.board.specs.Running.{lending}
+use Rattle.planning.specs.Planned.{SameTables}
+use Rattle.board.specs.Running.{SameSheet, lent_by}
 use Rattle.board.specs.Views.{tally_of}
 use Rattle.board.proofs.Stepping.{Going}
 use Rattle.board.proofs.board.Board.make_all.Given as goal
@@ -8,6 +9,9 @@ use Rattle.board.proofs.board.Board.make_all.Given as goal
 abbrev pub invariant-loop-i : goal.invariant-loop-i
 invariant-loop-i g l =
     let meaning = g.N.Network.meaning in
-    Going (length (meaning l.initial.self.net).legs) (tally_of meaning l.initial.self) (tally_of meaning l.self) l.calls l.i l.initial.answers l.answers
-    (lending l.initial.prices l.initial.numbers l.initial.amounts) (lending l.prices l.numbers l.amounts) l.at
-    × g.N.Office.kept l.initial.self.net l.self.net
+    record {
+      going : Going (length (meaning l.initial.self.net).legs) (tally_of meaning l.initial.self) (tally_of meaning l.self) l.calls l.i l.initial.answers l.answers (lent_by l.initial.sheet) (lent_by l.sheet) l.at;
+      kept : g.N.Office.kept l.initial.self.net l.self.net;
+      sheet_stays : SameSheet l.initial.sheet l.sheet;
+      tables_stay : SameTables l.initial.tables l.tables;
+    }
