@@ -1,16 +1,25 @@
 // plan_once: reads one network text from standard input and prints the planner's answer to it.
 #![tactic(auto)]
 
+ghost use Rattle.answers.specs.Answered.{Prints};
+ghost use Rattle.plan_answers.specs.Printed.{PrintsStated};
+
 use plan_answers::answer_text;
+use std::alloc::{AllocError, Global};
 use std::io;
-use text_program::answer_input;
+use text_program::{TextAnswer, answer_input};
+
+// The best plan on the network that a text states, or the refusal of the reading or of the planning.
+struct Once;
+
+impl TextAnswer for Once {
+    ghost answers = { Prints PrintsStated };
+
+    fn answer(&self, heap: Global, text: &[u8]) -> Result<String, AllocError> {
+        answer_text(heap, text)
+    }
+}
 
 fn main(rt: HostRuntime) -> io::Result<()> {
-    let heap = rt.alloc();
-    answer_input(
-        heap,
-        rt.stdin(),
-        &mut io::writer(&rt),
-        |text| answer_text(heap, text),
-    )
+    answer_input(rt.alloc(), rt.stdin(), &mut io::writer(&rt), &Once)
 }

@@ -1,14 +1,12 @@
 -- What a program that answers one text does.
 --   Told   a text was read, answered, and the answer was written
-use Rattle.std.specs.Prelude.{◌≡◌, ℕ, List, IfSome, Option, take, string_bytes}
-use Rattle.std.specs.declared.string.String.{String}
-use Rattle.std.specs.declared.alloc.Global.{Global}
+use Rattle.std.specs.Prelude.{◌≡◌, ℕ, List, IfSome, Option, take}
 use Rattle.std.specs.Io.KnownBytes.{Appends}
 
 -- by the bytes of the input, what a text may be answered, and what the output holds before and after
-pub record Told (input : Option (List ℕ)) (Answers : List ℕ → String Global → Type 0) (before after : Option (List ℕ)) : Type 0 where
+pub record Told (input : Option (List ℕ)) (Answers : List ℕ → List ℕ → Type 0) (before after : Option (List ℕ)) : Type 0 where
   pub text : List ℕ
-  pub answer : String Global
+  pub answer : List ℕ
   pub read : IfSome input (λ bytes. text ≡ take 65537 bytes)
   pub answered : Answers text answer
-  pub written : Appends before after (string_bytes answer)
+  pub written : Appends before after answer

@@ -1,8 +1,7 @@
 // A program that answers one text: it reads the text, answers it, and writes the answer.
 #![tactic(auto)]
 
-ghost use Rattle.std.specs.Prelude.{◌≡◌, ℕ, List, Ok, IfOk, OnOk, IfSome, take, string_bytes};
-ghost use Rattle.std.specs.Fn.{FnOnceReturnsAt};
+ghost use Rattle.std.specs.Prelude.{◌≡◌, ℕ, List, IfOk, OnOk, IfSome, take, string_bytes};
 ghost use Rattle.text_program.specs.Told.{Told};
 
 use std::alloc::{AllocError, Global};
@@ -21,17 +20,25 @@ fn read_text<R: Read + Drop>(heap: Global, input: R) -> io::Result<Vec<u8>>
     Ok(text)
 }
 
+// How a text is answered.
+pub trait TextAnswer {
+    // a text, and bytes that may answer it
+    ghost answers: { List ℕ → List ℕ → Type 0 };
+
+    fn answer(&self, heap: Global, text: &[u8]) -> Result<String, AllocError>
+        ensures { IfOk result (λ s. answers text.now (string_bytes s)) };
+}
+
 // Reads a text from the input, answers it, and writes the answer to the output.
-pub fn answer_input<R: Read + Drop, W: Write, F: FnOnce(&[u8]) -> Result<String, AllocError>>(
+pub fn answer_input<A: TextAnswer, R: Read + Drop, W: Write>(
     heap: Global,
     input: R,
     output: &mut W,
-    answer: F,
+    way: &A,
 ) -> io::Result<()>
-    requires { F.IsAlwaysCallable answer }
-    ensures { OnOk result (Told (R.remaining input) (λ text s. FnOnceReturnsAt F.FnOnce answer text (Ok s)) (W.contents output.old) (W.contents output.new)) }
+    ensures { OnOk result (Told (R.remaining input) A.answers (W.contents output.old) (W.contents output.new)) }
 {
     let text = read_text(heap, input)?;
-    let told = answer(text.as_slice())?;
+    let told = way.answer(heap, text.as_slice())?;
     output.write_all(told.as_bytes())
 }

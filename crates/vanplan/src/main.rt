@@ -1,16 +1,25 @@
 // vanplan: reads one network text from standard input and prints the planner's answer to it.
 #![tactic(auto)]
 
+ghost use Rattle.answers.specs.Answered.{Prints};
+ghost use Rattle.answers.specs.Printed.{PrintsStated};
+
 use answers::answer_text;
+use std::alloc::{AllocError, Global};
 use std::io;
-use text_program::answer_input;
+use text_program::{TextAnswer, answer_input};
+
+// The canonical text of the network that a text states, or its refusal.
+struct Vanplan;
+
+impl TextAnswer for Vanplan {
+    ghost answers = { Prints PrintsStated };
+
+    fn answer(&self, heap: Global, text: &[u8]) -> Result<String, AllocError> {
+        answer_text(heap, text)
+    }
+}
 
 fn main(rt: HostRuntime) -> io::Result<()> {
-    let heap = rt.alloc();
-    answer_input(
-        heap,
-        rt.stdin(),
-        &mut io::writer(&rt),
-        |text| answer_text(heap, text),
-    )
+    answer_input(rt.alloc(), rt.stdin(), &mut io::writer(&rt), &Vanplan)
 }
