@@ -1,17 +1,9 @@
 -- Reading lists by place, where a place past the end is absent.
-use Rattle.std.proofs.Common.{◌≡◌, ℕ, ◌+◌, ◌<◌, ◌≤◌, List, ◌++◌, map, length, get_or, take, Some, None, arith}
+use Rattle.std.proofs.Common.{◌≡◌, ℕ, ◌+◌, ◌<◌, ◌≤◌, List, ◌++◌, map, length, get_or, Some, None, arith}
 use Rattle.std.specs.List.{slice_get, range_with_len}
 use Rattle.std.proofs.lemmas.Grind.{common_steps}
 use Rattle.std.proofs.lemmas.List.FromFn.{length-map-range_with_len, get_or-map-range_with_len}
 use Rattle.std.proofs.lemmas.Option.{unwrap_or-slice_get, gets}
-
--- a place within the list is not empty
-pub nth_there : {X : Type 0} (xs : List X) (i : ℕ) → i < length xs → slice_get xs i ≡ None → ⊥
-nth_there xs i h e = grind (arith, gets)
-
--- a place with nothing is past the end
-pub nth_none : {X : Type 0} (xs : List X) (i : ℕ) → slice_get xs i ≡ None → length xs ≤ i
-nth_none xs i e = grind (arith, gets)
 
 -- a place with nothing is read as the default
 pub get_or_none : {X : Type 0} (xs : List X) (i : ℕ) (d : X) → slice_get xs i ≡ None → get_or xs i d ≡ d
@@ -30,10 +22,6 @@ nth_counted f n i h = grind (arith, common_steps, gets, length-map-range_with_le
 
 pub nth_counted_past : {X : Type 0} (f : ℕ → X) (n i : ℕ) → n ≤ i → slice_get (map f (range_with_len 0 n)) i ≡ None
 nth_counted_past f n i h = grind (arith, gets, length-map-range_with_len)
-
--- a front of a list
-pub nth_take : {X : Type 0} (n : ℕ) (xs : List X) (i : ℕ) → i < n → slice_get (take n xs) i ≡ slice_get xs i
-nth_take n xs i h = grind (arith, common_steps, gets)
 
 -- how long such a list is, and what stands in it
 pub ruleset counted = (length-map-range_with_len, nth_counted, nth_counted_past)

@@ -9,16 +9,10 @@ ghost use Rattle.network.specs.Keeping.{Keeps};
 ghost use Rattle.network.specs.Nets.{Net, Within, total};
 ghost use Rattle.network.specs.Offices.{Answers, Marks, Reports, mark_fault, report_fault};
 
-use records::{Leg, Mark, Refusal};
+pub mod choices;
 
-// No network has more stations.
-pub const MOST_STATIONS: usize = 240;
-
-// No network has more legs.
-pub const MOST_LEGS: usize = 3000;
-
-// No station reports a balance further from 0.
-const MOST_REPORTED: i32 = 500;
+pub use choices::Belongs;
+use records::{Leg, MOST_REPORTED, Mark, Refusal};
 
 // The questions. A question alters nothing, and one beyond the count is answered by None.
 pub trait Network {

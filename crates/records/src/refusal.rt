@@ -64,8 +64,8 @@ impl Refusal {
         }
     }
 
-    // Where the fault lies: the line, counted from 1, or 0 where there is none; the station; the leg;
-    // how many stations are in the cut.
+    // Where the fault lies: the line, counted from 1; the station; the leg; how many stations are in the cut. No option:
+    // each refusal is told with a number and a place, 0 where it has none.
     pub fn place(&self) -> usize
         ensures { result ≡ place self.now }
     {
