@@ -3,7 +3,7 @@ use crate::print;
 use network::Office;
 use std::{fmt, io};
 
-// A call of an office.
+// A call of an office. The rules of a board have calls that these are three of; they stand above what is tested here.
 #[derive(Clone, Copy)]
 pub(crate) enum Call {
     Report { station: usize, balance: i32 },
@@ -28,8 +28,7 @@ pub(crate) fn make<N: Office>(rt: &HostRuntime, office: &mut N, call: Call) -> i
         Call::Close { leg } => office.close(leg),
         Call::Reopen { leg } => office.reopen(leg),
     };
-    print!(rt; "  {call}")?;
-    print::answer(rt, answer)
+    print::answer(rt, &call, answer)
 }
 
 // Every refusal on both sides of its limit, and which of two counts.

@@ -5,7 +5,7 @@ ghost use Rattle.table.specs.Tables.{table_of};
 ghost use Rattle.van_limit.specs.Limited.{limited};
 ghost use Rattle.yard.specs.Yards.{with_yard};
 
-use crate::print;
+use crate::print::Found;
 use crate::tables::{LEGS, STATIONS};
 use network::Network;
 use records::{Leg, Station};
@@ -32,6 +32,8 @@ fn leg_of_pile(
 pub(crate) fn legs(rt: &HostRuntime) -> io::Result<()> {
     let mut legs = LEGS;
     let mut stations = STATIONS;
-    print::found_leg(rt, leg_of_pile(&mut legs, &mut stations, 3, 10_001, 0))?;
-    print::found_leg(rt, leg_of_pile(&mut legs, &mut stations, 3, 10_001, 8))
+    let below = leg_of_pile(&mut legs, &mut stations, 3, 10_001, 0);
+    let own = leg_of_pile(&mut legs, &mut stations, 3, 10_001, 8);
+    println!(rt; "{}", Found(below))?;
+    println!(rt; "{}", Found(own))
 }

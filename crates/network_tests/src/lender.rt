@@ -4,7 +4,7 @@ ghost use Rattle.records.specs.declared.leg.Mark.TheVariants.{Shut};
 ghost use Rattle.network.specs.Offices.{Marks};
 ghost use Rattle.table.specs.Tables.{table_of};
 
-use crate::print;
+use crate::print::{self, Found};
 use crate::tables::{LEGS, STATIONS};
 use network::{Network, Office};
 use records::{Leg, Refusal, Station};
@@ -33,8 +33,6 @@ pub(crate) fn records(rt: &HostRuntime) -> io::Result<()> {
     let mut legs = LEGS;
     let mut stations = STATIONS;
     let answer = close_lent(&mut legs, &mut stations, 2);
-    print!(rt; "  close 2 for a lender")?;
-    print::answer(rt, answer)?;
-    print!(rt; "  record: ")?;
-    print::leg_record(rt, legs[2])
+    print::answer(rt, &"close 2 for a lender", answer)?;
+    println!(rt; "  record: {}", Found(Some(legs[2])))
 }

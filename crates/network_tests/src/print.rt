@@ -1,41 +1,46 @@
 // Prints what a network answers.
 use network::Network;
 use records::{Leg, Refusal};
-use std::io;
+use std::{fmt, io};
+
+// A leg as it is printed: what it holds, or that there is none.
+#[derive(Clone, Copy)]
+pub(crate) struct Found(pub(crate) Option<Leg>);
+
+impl fmt::Display for Found {
+    fn fmt<W: fmt::Write>(&self, f: &mut fmt::Formatter<W>) -> fmt::Result {
+        match self.0 {
+            Some(
+                Leg {
+                    start,
+                    end,
+                    capacity,
+                    charge,
+                    mark,
+                },
+            ) => write!(
+                f,
+                "{start} to {end}, capacity {capacity}, charge {charge}, {mark}"
+            ),
+            None => f.write_str("absent"),
+        }
+    }
+}
 
 // The four counts.
 pub(crate) fn counts<N: Network>(rt: &HostRuntime, name: &str, network: &N) -> io::Result<()> {
-    let n = network.stations();
-    let m = network.legs();
-    let a = network.open_stations();
-    let r = network.road_legs();
-    println!(rt; "{name}: n {n} m {m} a {a} r {r}")
-}
-
-// What a leg record holds.
-pub(crate) fn leg_record(rt: &HostRuntime, leg: Leg) -> io::Result<()> {
-    let Leg {
-        start,
-        end,
-        capacity,
-        charge,
-        mark,
-    } = leg;
-    println!(rt; "{start} to {end}, capacity {capacity}, charge {charge}, {mark}")
-}
-
-// A leg record, or that there is none.
-pub(crate) fn found_leg(rt: &HostRuntime, found: Option<Leg>) -> io::Result<()> {
-    match found {
-        Some(leg) => leg_record(rt, leg),
-        None => println!(rt; "absent"),
-    }
+    println!(rt;
+        "{name}: n {} m {} a {} r {}",
+        network.stations(),
+        network.legs(),
+        network.open_stations(),
+        network.road_legs()
+    )
 }
 
 // A leg, or that there is none.
 pub(crate) fn leg<N: Network>(rt: &HostRuntime, network: &N, number: usize) -> io::Result<()> {
-    print!(rt; "  leg {number}: ")?;
-    found_leg(rt, network.leg(number))
+    println!(rt; "  leg {number}: {}", Found(network.leg(number)))
 }
 
 // A balance, or that there is none.
@@ -53,7 +58,7 @@ pub(crate) fn all<N: Network>(rt: &HostRuntime, name: &str, network: &N) -> io::
     legs(rt, network)
 }
 
-// Every balance, and one number beyond.
+// Every balance, and one number beyond. By a range, here and below: a network is asked by number, and has no slice to go through.
 pub(crate) fn balances<N: Network>(rt: &HostRuntime, network: &N) -> io::Result<()> {
     for station in 0..=network.stations() {
         balance(rt, network, station)?;
@@ -69,10 +74,14 @@ pub(crate) fn legs<N: Network>(rt: &HostRuntime, network: &N) -> io::Result<()> 
     Ok(())
 }
 
-// What a call answered.
-pub(crate) fn answer(rt: &HostRuntime, answer: Result<(), Refusal>) -> io::Result<()> {
+// A call, and what it answered.
+pub(crate) fn answer(
+    rt: &HostRuntime,
+    call: &impl fmt::Display,
+    answer: Result<(), Refusal>,
+) -> io::Result<()> {
     match answer {
-        Ok(()) => println!(rt; ": accepted"),
-        Err(refusal) => println!(rt; ": {refusal}"),
+        Ok(()) => println!(rt; "  {call}: accepted"),
+        Err(refusal) => println!(rt; "  {call}: {refusal}"),
     }
 }

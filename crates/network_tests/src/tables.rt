@@ -1,43 +1,21 @@
 // Tables on lent records.
+use crate::calls;
 use crate::calls::Call;
-use crate::{calls, print};
+use crate::print::{self, Found};
 use network::{Network, Office};
 use records::{Leg, Mark, Station};
+use samples::worked::{FROM_1, PAST_1, TO_1, leg, station};
 use std::io;
 use table::Table;
 
-// A record beside those that a table reads.
-const SPARE: Leg = Leg {
-    start: 9,
-    end: 9,
-    capacity: 9,
-    charge: 9,
-    mark: Mark::Open,
-};
-
-// Three stations with three legs.
+// Three stations with three legs, of which one is shut.
 pub const LEGS: [Leg; 3] = [
+    TO_1,
     Leg {
-        start: 0,
-        end: 1,
-        capacity: 4,
-        charge: 20,
-        mark: Mark::Open,
-    },
-    Leg {
-        start: 1,
-        end: 2,
-        capacity: 4,
-        charge: 10,
         mark: Mark::Shut,
+        ..FROM_1
     },
-    Leg {
-        start: 0,
-        end: 2,
-        capacity: 3,
-        charge: 40,
-        mark: Mark::Open,
-    },
+    PAST_1,
 ];
 
 // Their balances.
@@ -64,21 +42,8 @@ pub(crate) fn small(rt: &HostRuntime) -> io::Result<()> {
 
 // A table answers what its records hold, also where that makes no sense; and one with no records.
 pub(crate) fn nonsense(rt: &HostRuntime) -> io::Result<()> {
-    let mut legs = [Leg {
-        start: 7,
-        end: 7,
-        capacity: 65535,
-        charge: 4294967295,
-        mark: Mark::Open,
-    }];
-    let mut stations = [
-        Station {
-            balance: 2147483647,
-        },
-        Station {
-            balance: -2147483648,
-        },
-    ];
+    let mut legs = [leg(7, 7, u16::MAX, u32::MAX)];
+    let mut stations = [station(i32::MAX), station(i32::MIN)];
     print::all(
         rt,
         "nonsense",
@@ -97,10 +62,10 @@ pub(crate) fn nonsense(rt: &HostRuntime) -> io::Result<()> {
     calls::refusals(rt, &mut table)
 }
 
-// The first 3,000 legs and the first 240 stations count.
+// The first 3,000 legs and the first 240 stations count. The test states the limits by itself, and numbers on both sides of them.
 pub(crate) fn long(rt: &HostRuntime) -> io::Result<()> {
-    let mut legs = [SPARE; 3001];
-    let mut stations = [Station { balance: 1 }; 241];
+    let mut legs = [leg(9, 9, 9, 9); 3001];
+    let mut stations = [station(1); 241];
     let mut table = Table {
         legs: &mut legs,
         stations: &mut stations,
@@ -141,9 +106,8 @@ pub(crate) fn lent(rt: &HostRuntime) -> io::Result<()> {
             calls::make(rt, &mut table, call)?;
         }
     }
-    for leg in &legs {
-        print!(rt; "  record: ")?;
-        print::leg_record(rt, *leg)?;
+    for leg in legs {
+        println!(rt; "  record: {}", Found(Some(leg)))?;
     }
     let balances = stations.map(|record| record.balance);
     println!(rt; "  balances {balances:?}")

@@ -1,15 +1,11 @@
 // Yards.
 use crate::print;
 use network::Network;
-use records::{Leg, Mark, Station};
+use records::{Leg, Station};
+use samples::worked::{leg, station};
 use std::io;
 use table::Table;
 use yard::Yard;
-
-// A station with a balance.
-fn with(balance: i32) -> Station {
-    Station { balance }
-}
 
 // A yard over these stations and no leg.
 fn over(rt: &HostRuntime, stations: &mut [Station], charge: u32) -> io::Result<()> {
@@ -24,14 +20,14 @@ fn over(rt: &HostRuntime, stations: &mut [Station], charge: u32) -> io::Result<(
 // The negated sum, on both sides of where it is held, and beyond 32 bits.
 pub(crate) fn sums(rt: &HostRuntime) -> io::Result<()> {
     over(rt, &mut [], 25)?;
-    over(rt, &mut [with(3)], 25)?;
-    over(rt, &mut [with(120_000)], 10_000)?;
-    over(rt, &mut [with(120_001)], 10_001)?;
-    over(rt, &mut [with(-120_000)], 0)?;
-    over(rt, &mut [with(-120_001)], 0)?;
-    over(rt, &mut [with(i32::MAX), with(i32::MAX)], 1)?;
-    over(rt, &mut [with(i32::MIN), with(i32::MIN)], 1)?;
-    over(rt, &mut [with(i32::MAX), with(i32::MIN)], 1)
+    over(rt, &mut [station(3)], 25)?;
+    over(rt, &mut [station(120_000)], 10_000)?;
+    over(rt, &mut [station(120_001)], 10_001)?;
+    over(rt, &mut [station(-120_000)], 0)?;
+    over(rt, &mut [station(-120_001)], 0)?;
+    over(rt, &mut [station(i32::MAX), station(i32::MAX)], 1)?;
+    over(rt, &mut [station(i32::MIN), station(i32::MIN)], 1)?;
+    over(rt, &mut [station(i32::MAX), station(i32::MIN)], 1)
 }
 
 // The counts of a yard over so many lent records.
@@ -51,38 +47,22 @@ fn counted(
 
 // Networks with room for a yard and without, on both sides.
 pub(crate) fn room(rt: &HostRuntime) -> io::Result<()> {
-    let plain = Leg {
-        start: 0,
-        end: 1,
-        capacity: 1,
-        charge: 1,
-        mark: Mark::Open,
-    };
-    counted(
-        rt,
-        "239 stations",
-        &mut [plain; 5],
-        &mut [Station { balance: 2 }; 239],
-    )?;
-    counted(
-        rt,
-        "240 stations",
-        &mut [plain; 5],
-        &mut [Station { balance: 2 }; 240],
-    )?;
+    let plain = leg(0, 1, 1, 1);
+    counted(rt, "239 stations", &mut [plain; 5], &mut [station(2); 239])?;
+    counted(rt, "240 stations", &mut [plain; 5], &mut [station(2); 240])?;
     counted(
         rt,
         "2998 legs over 1 station",
         &mut [plain; 2998],
-        &mut [Station { balance: 2 }; 1],
+        &mut [station(2); 1],
     )?;
     counted(
         rt,
         "2999 legs over 1 station",
         &mut [plain; 2999],
-        &mut [Station { balance: 2 }; 1],
+        &mut [station(2); 1],
     )?;
-    let mut stations = [Station { balance: 2 }; 239];
+    let mut stations = [station(2); 239];
     let table = Table {
         legs: &mut [plain; 5],
         stations: &mut stations,

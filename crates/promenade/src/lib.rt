@@ -8,7 +8,7 @@ ghost use Rattle.network.specs.Keeping.{nothing};
 ghost use Rattle.promenade.specs.Promenades.{fresh, promenade, promenade_leg, promenade_within};
 
 use network::{Network, Office, check_mark, check_report};
-use records::{Leg, Mark, Refusal};
+use records::{Leg, MOST_CAPACITY, MOST_CHARGE, Mark, Refusal};
 
 // The most stations of a row.
 const MOST_ROW: usize = 40;
@@ -16,13 +16,8 @@ const MOST_ROW: usize = 40;
 // The most legs of a row: two for each station but the last.
 const MOST_ROW_LEGS: usize = 2 * (MOST_ROW - 1);
 
-// The highest capacity of a row's legs.
-const MOST_CAPACITY: u16 = 500;
-
-// The highest charge of a row's legs.
-const MOST_CHARGE: u32 = 10_000;
-
-// The row. Balances and marks beyond its stations and legs are not read.
+// The row. Balances and marks beyond its stations and legs are not read. Arrays, and no vectors of fixed room: each of the two
+// would keep the number of stations a second time.
 #[derive(Drop)]
 pub struct Promenade {
     stations: usize,
@@ -56,6 +51,7 @@ impl Promenade {
         requires { number < 78 }
         ensures { result ≡ promenade_leg self.now.capacity self.now.charge (slice_index_or self.now.marks number Open) number }
     {
+        // no `From` of this kind exists, and the check proves that nothing is lost
         let station = (number / 2) as u16;
         let (start, end) = if number % 2 == 0 {
             (station, station + 1)

@@ -2,12 +2,13 @@
 // records hold, also where that makes no sense; reports and closings are written into them.
 #![tactic(auto)]
 
-ghost use Rattle.std.specs.Prelude.{◌≡◌, drop, take};
+ghost use Rattle.std.specs.Prelude.{◌≡◌, drop};
 ghost use Rattle.table.specs.Lent.{kept_four};
 ghost use Rattle.table.specs.Tables.{table_of, table_within};
 
-use network::{MOST_LEGS, MOST_STATIONS, Network, Office, check_mark, check_report};
-use records::{Leg, Mark, Refusal, Station};
+use network::{Network, Office, check_mark, check_report};
+use records::{Leg, MOST_LEGS, MOST_STATIONS, Mark, Refusal, Station};
+use slices::first;
 
 // The lent records. Those beyond the limits are neither read nor written.
 #[derive(Drop)]
@@ -16,25 +17,17 @@ pub struct Table<'a> {
     pub stations: &'a mut [Station],
 }
 
-// The records that count: as many as there are, and no more than a limit.
-#[tactic(auto, using(std::proofs::lemmas::List::take_min))]
-fn counted<T>(records: &[T], most: usize) -> &[T]
-    ensures { result.now ≡ take most records.now }
-{
-    &records[..most.min(records.len())]
-}
-
 impl<'a> Network for Table<'a> {
     ghost meaning = { λ s. table_of s.legs.now s.stations.now };
 
     ghost limits = { λ s. table_within s.legs.now s.stations.now };
 
     fn stations(&self) -> usize {
-        counted(self.stations, MOST_STATIONS).len()
+        first(self.stations, MOST_STATIONS).len()
     }
 
     fn legs(&self) -> usize {
-        counted(self.legs, MOST_LEGS).len()
+        first(self.legs, MOST_LEGS).len()
     }
 
     fn open_stations(&self) -> usize {
@@ -46,11 +39,11 @@ impl<'a> Network for Table<'a> {
     }
 
     fn leg(&self, number: usize) -> Option<Leg> {
-        counted(self.legs, MOST_LEGS).get(number).copied()
+        first(self.legs, MOST_LEGS).get(number).copied()
     }
 
     fn balance(&self, station: usize) -> Option<i32> {
-        counted(self.stations, MOST_STATIONS)
+        first(self.stations, MOST_STATIONS)
             .get(station)
             .map(|record| record.balance)
     }

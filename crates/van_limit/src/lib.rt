@@ -6,10 +6,7 @@ ghost use Rattle.network.specs.Keeping.{below as part};
 ghost use Rattle.van_limit.specs.Limited.{limited, limited_within};
 
 use network::{Network, Office};
-use records::{Leg, Mark, Refusal};
-
-// The highest limit.
-const MOST_LIMIT: u16 = 500;
+use records::{Leg, MOST_CAPACITY, Mark, Refusal};
 
 // A network under a limit on every leg's capacity.
 #[derive(Drop)]
@@ -25,7 +22,7 @@ impl<N> VanLimit<N> {
     {
         VanLimit {
             below,
-            limit: limit.min(MOST_LIMIT),
+            limit: limit.min(MOST_CAPACITY),
         }
     }
 }
@@ -63,6 +60,7 @@ impl<N: Network> Network for VanLimit<N> {
     }
 }
 
+// A layer hands its calls on by itself: an implementation for all layers would overlap with that of `Table`, which is refused.
 impl<N: Office> Office for VanLimit<N> {
     ghost kept = { λ s t. N.Office.kept s.below t.below };
 

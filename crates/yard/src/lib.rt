@@ -7,17 +7,13 @@ ghost use Rattle.std.specs.List.{slice_get};
 ghost use Rattle.network.specs.Keeping.{below as part};
 ghost use Rattle.yard.specs.Yards.{full, held, with_yard, yard_leg, yard_within};
 
-use network::{MOST_LEGS, MOST_STATIONS, Network, Office, total_balance};
-use records::{Leg, Mark, Refusal};
-
-// The capacity of a yard's legs.
-const CAPACITY: u16 = 500;
-
-// The highest charge of a yard's legs.
-const MOST_CHARGE: u32 = 10_000;
+use network::{Network, Office, total_balance};
+use records::{
+    Leg, MOST_BALANCE, MOST_CAPACITY, MOST_CHARGE, MOST_LEGS, MOST_STATIONS, Mark, Refusal,
+};
 
 // The balance of a yard is held this far from 0.
-const MOST_HELD: i64 = 120_000;
+const MOST_HELD: i64 = MOST_BALANCE as i64;
 
 // A network with a yard, whose legs all have one charge.
 #[derive(Drop)]
@@ -38,7 +34,8 @@ impl<N> Yard<N> {
     }
 }
 
-// Whether there is no room for a yard above so many stations and legs.
+// Whether there is no room for a yard above so many stations and legs. No method: its callers go on with the stations, two with
+// the legs, too, and would ask for them twice.
 fn is_full(stations: usize, legs: usize) -> bool
     requires { (stations ≤ 240) × (legs ≤ 3000) }
     ensures { result ≡ full stations legs }
@@ -46,14 +43,16 @@ fn is_full(stations: usize, legs: usize) -> bool
     stations == MOST_STATIONS || legs + 2 * stations > MOST_LEGS
 }
 
-// A sum negated and held within -120,000 to 120,000.
+// A sum negated and held within -120,000 to 120,000. No `From` exists for the casts here and below, and the check proves that they
+// lose nothing.
 fn hold(sum: i64) -> i32
     ensures { result ≡ held (neg_ℤ sum) }
 {
     -(sum.clamp(-MOST_HELD, MOST_HELD) as i32)
 }
 
-// One of the legs that a yard adds over so many stations.
+// One of the legs that a yard adds over so many stations: out on even numbers, back on odd ones. A promenade's legs do so too, but
+// between other stations; a leg with its ends exchanged would say less than these two lines.
 fn added_leg(charge: u32, stations: usize, number: usize) -> Leg
     requires { (stations ≤ 240) × (number < 2 * stations) }
     ensures { result ≡ yard_leg charge stations number }
@@ -68,7 +67,7 @@ fn added_leg(charge: u32, stations: usize, number: usize) -> Leg
     Leg {
         start,
         end,
-        capacity: CAPACITY,
+        capacity: MOST_CAPACITY,
         charge,
         mark: Mark::Open,
     }
@@ -144,6 +143,7 @@ impl<N: Network> Network for Yard<N> {
     }
 }
 
+// A layer hands its calls on by itself: an implementation for all layers would overlap with that of `Table`, which is refused.
 impl<N: Office> Office for Yard<N> {
     ghost kept = { λ s t. N.Office.kept s.below t.below };
 

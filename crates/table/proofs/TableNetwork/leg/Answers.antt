@@ -4,4 +4,4 @@ use Rattle.std.proofs.lemmas.Option.{gets}
 use Rattle.table.proofs.TableNetwork.leg.Goals as goal
 
 pub returns : goal.returns
-returns c = rw (← c.counted.ensures) (grind (arith, common_steps, gets))
+returns c = rw (← c.first.ensures) (grind (arith, common_steps, gets))
