@@ -10,28 +10,18 @@ use Rattle.records.specs.declared.station.Station.{Station}
 use Rattle.records.specs.declared.refusal.Refusal.{Refusal}
 use Rattle.reader.specs.Entering.{room_of}
 use Rattle.text_rules.specs.Reading.{reading}
-use Rattle.text_rules.specs.Stated.{StatedNetwork, States, Fitting, Refused, network_of}
+use Rattle.text_rules.specs.Stated.{StatedNetwork, States, Fitting, Refused}
 use Rattle.text_rules.specs.declared.progress.Room.{Room}
+use Rattle.text_rules.proofs.Exact.{states_taken}
 use Rattle.text_rules.proofs.Legal.{legal}
-use Rattle.text_rules.proofs.Running.{Taken, taken_reading, refused_reading}
-use Rattle.text_rules.proofs.Sizing.{roomy_fitting}
+use Rattle.text_rules.proofs.Running.{taken_reading, refused_reading}
 use Rattle.network.specs.Nets.{Net}
 use Rattle.text_table.specs.Stands.{net_of, Stands, Falls}
 use Rattle.answers.specs.Answered.{whole_room, refusal_line, PrintsRead, Prints}
 
 -- a text that states a network is read as its lines
 stated_reading : (text : List ℕ) (room : Room) (net : StatedNetwork) (s : States text net) → Fitting room net → reading room text ≡ Ok s.lines
-stated_reading text room net s fitting =
-    let fits : Fitting room (network_of s.lines) = subst (Fitting room) s.same fitting in
-    let taken : Taken text room s.lines =
-    record {
-      short = s.short;
-      rows = s.rows;
-      parted = s.parted;
-      complete = s.complete;
-      good = record { spelled = s.spelled; lawful = s.lawful; roomy = roomy_fitting room s.lines s.lawful s.complete fits };
-    } in
-    taken_reading text room s.lines taken
+stated_reading text room net s fitting = taken_reading text room s.lines (states_taken text room net s fitting)
 
 module _ (P : StatedNetwork → List ℕ → Type 0) (text bytes : List ℕ) where
   -- every network that a text states fits the largest tables

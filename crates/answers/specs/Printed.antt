@@ -1,5 +1,5 @@
 -- What `vanplan` prints.
---   as_stations    the station records of some balances
+--   as_stations    the stations that have some balances
 --   printed        the bytes printed for what reading a text came to
 --   PrintsNet      a network, and the bytes that are printed for it
 --   PrintsStated   a network that a text states, and the bytes that are printed for it
@@ -8,14 +8,10 @@ use Rattle.records.specs.Refusals.{number, place}
 use Rattle.records.specs.declared.refusal.Refusal.{Refusal}
 use Rattle.records.specs.declared.station.Station.{Station}
 use Rattle.lines.specs.declared.line.Line.{Line}
-use Rattle.text_rules.specs.Stated.{StatedNetwork, legs_of, stations_of}
+use Rattle.text_rules.specs.Stated.{StatedNetwork, as_station, legs_of, stations_of}
 use Rattle.network.specs.Nets.{Net}
 use Rattle.writer.specs.Canonical.{canonical}
 use Rattle.answers.specs.Answered.{refusal_line}
-
--- stations that have nothing but these balances
-abbrev pub as_station : ℤ → Station
-as_station z = record { balance = z }
 
 abbrev pub as_stations : List ℤ → List Station
 as_stations balances = map as_station balances

@@ -7,11 +7,12 @@ ghost use Rattle.text_table.specs.Stands.{net_of};
 ghost use Rattle.answers.specs.Answered.{whole_room, refusal_line, PrintsRead, Prints};
 
 use network::Network;
-use records::{Leg, Refusal, Station};
+use records::{Leg, MOST_LEGS, MOST_STATIONS, Refusal, Station};
 use std::alloc::{AllocError, Global};
 use text_table::read_table;
 
-// What is printed for any network.
+// What is printed for any network. A trait and no closure: what is promised cites a ghost member, which a closure has not,
+// and `answer` takes networks of any type.
 pub trait NetworkAnswer {
     // a network, and bytes that may be printed for it
     ghost prints: { Net → List ℕ → Type 0 };
@@ -32,8 +33,8 @@ pub fn answer_by<A: NetworkAnswer>(heap: Global, text: &[u8]) -> Result<String, 
     ensures bytes { IfOk result (λ s. PrintsRead (λ net. A.prints (net_of net)) (reading whole_room text.now) (string_bytes s)) }
     ensures prints { IfOk result (λ s. Prints (λ net. A.prints (net_of net)) text.now (string_bytes s)) }
 {
-    let mut legs = vec![in heap; Leg::default(); 3000]?;
-    let mut stations = vec![in heap; Station::default(); 240]?;
+    let mut legs = vec![in heap; Leg::default(); MOST_LEGS]?;
+    let mut stations = vec![in heap; Station::default(); MOST_STATIONS]?;
     match read_table(text, legs.as_mut_slice(), stations.as_mut_slice()) {
         Ok(table) => A::answer(heap, &table),
         Err(refusal) => refusal_text(heap, refusal),

@@ -2,13 +2,13 @@
 --   written_scan     a line that the bytes spell is found
 --   scan_written     the line found is one that the bytes spell
 --   spells           both, as the forms judge it
-use Rattle.std.proofs.Common.{◌≡◌, ℕ, eqb, List, [], ◌∷◌, Some, None, codes, Option, sym, refl, ◌∙◌, inl, inr, append-nil}
+use Rattle.std.proofs.Common.{◌≡◌, ℕ, eqb, List, [], ◌∷◌, Some, None, codes, Option, sym, refl, inl, inr, append-nil}
 use Rattle.std.proofs.lemmas.Bool.{eqb-true, cond_both}
 use Rattle.lines.specs.declared.line.Line.{Line}
 use Rattle.lines.specs.declared.line.Line.TheVariants.{Comment, Problem, Node, Arc}
 use Rattle.lines.specs.Grammar.{Spelled, Written}
 use Rattle.lines.specs.Scan.{scan, comment, problem, node, arc}
-use Rattle.lines.proofs.Fronts.{numeral_of, last_numeral, last_signed, none_some, ended_from, by_word, by_field, by_flow}
+use Rattle.lines.proofs.Fronts.{numeral_of, last_numeral, last_signed, ended_from, by_word, by_field, by_flow}
 
 pub written_scan : (l : Line) (bs : List ℕ) → Written l bs → scan bs ≡ Some l
 written_scan Comment bs (inl e) = rw e
@@ -33,7 +33,7 @@ comment_written [] l e = let q : l ≡ Comment = cc in rw q (inl refl)
 comment_written (b ∷ s) l e =
     cond_both (eqb b 32) (Some Comment) None (λ o. o ≡ Some l → Written l (99 ∷ b ∷ s))
     (λ t e. let q : l ≡ Comment = cc in rw (q, eqb-true b 32 t) (inr (s, refl)))
-    (λ _. none_some)
+    (λ _ z. cc)
     e
 
 problem_written : (s : List ℕ) (l : Line) → problem s ≡ Some l → Written l (112 ∷ s)
@@ -62,18 +62,15 @@ arc_written s l e =
     rw (sym z.1) (a, b, c, d, k, pa, pb, pc, pd, pk, cc (append-nil k))
 
 pub scan_written : (l : Line) (bs : List ℕ) → scan bs ≡ Some l → Written l bs
-scan_written l [] e = none_some e
+scan_written l [] e = cc
 scan_written l (b ∷ s) e =
     let P : Option Line → Type 0 = λ o. o ≡ Some l → Written l (b ∷ s) in
     cond_both (eqb b 99) (comment s) _ P (λ t e. rw (eqb-true b 99 t) (comment_written s l e))
     (λ _. cond_both (eqb b 112) (problem s) _ P (λ t e. rw (eqb-true b 112 t) (problem_written s l e))
     (λ _. cond_both (eqb b 110) (node s) _ P (λ t e. rw (eqb-true b 110 t) (node_written s l e))
-    (λ _. cond_both (eqb b 97) (arc s) None P (λ t e. rw (eqb-true b 97 t) (arc_written s l e)) (λ _. none_some))))
+    (λ _. cond_both (eqb b 97) (arc s) None P (λ t e. rw (eqb-true b 97 t) (arc_written s l e)) (λ _ z. cc))))
     e
 
-spells_as : (o : Option Line) (bs : List ℕ) → scan bs ≡ o → Spelled o bs
-spells_as None bs e = λ l w. none_some (sym e ∙ written_scan l bs w)
-spells_as (Some l) bs e = (scan_written l bs e, λ k w. let q = written_scan k bs w in cc)
-
-pub spells : (bs : List ℕ) → Spelled (scan bs) bs
-spells bs = spells_as (scan bs) bs refl
+pub spells : (o : Option Line) (bs : List ℕ) → o ≡ scan bs → Spelled o bs
+spells None bs e = λ l w. let q = written_scan l bs w in cc
+spells (Some l) bs e = (scan_written l bs (sym e), λ k w. let q = written_scan k bs w in cc)

@@ -1,6 +1,6 @@
 -- The forms of a line, as the format's description gives them.
 --   Digits    bytes that are all digits, `0` to `9`
---   worth     the number that digits write, base ten
+--   worth     the number that digits write, base ten; `worth_from` goes on from a number begun
 --   Numeral   one to nine digits, and the number that they write; leading zeros count as digits
 --   Signed    a numeral, or a minus sign and a numeral
 --   Written   a line and the bytes that spell it, with a single space between fields
@@ -14,12 +14,12 @@ Digits [] = Unit {0}
 Digits (b ∷ ds) = (48 ≤ b) × (b ≤ 57) × Digits ds
 
 -- the number that digits write behind a number begun
-abbrev pub worthFrom : ℕ → List ℕ → ℕ
-worthFrom begun [] = begun
-worthFrom begun (b ∷ ds) = worthFrom (begun * 10 + (b - 48)) ds
+abbrev pub worth_from : ℕ → List ℕ → ℕ
+worth_from begun [] = begun
+worth_from begun (b ∷ ds) = worth_from (begun * 10 + (b - 48)) ds
 
 abbrev pub worth : List ℕ → ℕ
-worth ds = worthFrom 0 ds
+worth ds = worth_from 0 ds
 
 pub record Numeral (ds : List ℕ) (n : ℕ) : Type 0 where
   pub some : 1 ≤ length ds

@@ -1,4 +1,5 @@
-// The kinds of line in a network text, with the numbers that they state.
+// The kinds of line in a network text, with the numbers that they state: u32, as at most nine digits write one. Where a record or a
+// count wants another type they are cast: no `From` goes from u32 to usize, to u16 or to i32, and the check proves that nothing is lost.
 
 #[derive(Clone, Copy, PartialEq, Eq, Debug)]
 pub enum Line {

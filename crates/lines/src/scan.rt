@@ -1,13 +1,13 @@
 // Taking a line apart, from its first byte to its last.
-ghost use Rattle.std.specs.Prelude.{◌≡◌, ℕ, ◌+◌, ◌-◌, ◌*◌, ◌<◌, ◌≤◌, true, false, length, Some, None, MatchOption};
+ghost use Rattle.std.specs.Prelude.{◌≡◌, ℕ, ◌+◌, ◌-◌, ◌*◌, ◌<◌, ◌≤◌, true, false, length, Some, None, MatchOption, IfSome};
 ghost use Rattle.lines.specs.Grammar.{Spelled};
-ghost use Rattle.lines.specs.Scan.{isDigit, Stops, BeginsWith, numeral, past, after, field, signed, flow, ended, comment, problem, node, arc, scan};
+ghost use Rattle.lines.specs.Scan.{is_digit, Stops, BeginsWith, Parsed, numeral, field, signed, flow, ended, comment, problem, node, arc, scan};
 
 use crate::line::Line;
 
 // The worth of a digit.
 fn digit(b: u8) -> Option<u8>
-    ensures { MatchOption result (isDigit b ≡ false) (λ d. (isDigit b ≡ true) × (d ≡ b - 48) × (d ≤ 9)) }
+    ensures { MatchOption result (is_digit b ≡ false) (λ d. (is_digit b ≡ true) × (d ≡ b - 48) × (d ≤ 9)) }
 {
     match b {
         b'0'..=b'9' => Some(b - b'0'),
@@ -24,8 +24,10 @@ fn first_digit(s: &[u8]) -> Option<(u8, &[u8])>
 }
 
 // A number of one to nine digits at the front, and what follows it.
+// A fold in a closure has no bound for the number that it makes, so a loop takes the further digits.
 fn numeral(s: &[u8]) -> Option<(u32, &[u8])>
-    ensures { MatchOption result (numeral s.now ≡ None) (λ p. (numeral s.now ≡ Some (p.0, p.1.now)) × (p.0 < 1000000000)) }
+    ensures parsed { Parsed result (numeral s.now) }
+    ensures small { IfSome result (λ p. p.0 < 1000000000) }
 {
     let (first, mut rest) = first_digit(s)?;
     let mut value = u32::from(first);
@@ -39,32 +41,19 @@ fn numeral(s: &[u8]) -> Option<(u32, &[u8])>
     Some((value, rest))
 }
 
-// What follows the byte `b`, where `s` begins with it.
-fn past(s: &[u8], b: u8) -> Option<&[u8]>
-    ensures { MatchOption result (past b s.now ≡ None) (λ rest. past b s.now ≡ Some rest.now) }
-{
-    s.strip_prefix(&[b])
-}
-
-// What follows `word`, where `s` begins with it.
-fn after<'a>(s: &'a [u8], word: &[u8]) -> Option<&'a [u8]>
-    ensures { MatchOption result (after word.now s.now ≡ None) (λ rest. after word.now s.now ≡ Some rest.now) }
-{
-    s.strip_prefix(word)
-}
-
 // A space and then a numeral, and what follows it.
 fn field(s: &[u8]) -> Option<(u32, &[u8])>
-    ensures { MatchOption result (field s.now ≡ None) (λ p. (field s.now ≡ Some (p.0, p.1.now)) × (p.0 < 1000000000)) }
+    ensures parsed { Parsed result (field s.now) }
+    ensures small { IfSome result (λ p. p.0 < 1000000000) }
 {
-    numeral(past(s, b' ')?)
+    numeral(s.strip_prefix(b" ")?)
 }
 
 // A numeral, with or without a minus sign before it, and what follows it.
 fn signed(s: &[u8]) -> Option<(i32, &[u8])>
-    ensures { MatchOption result (signed s.now ≡ None) (λ p. signed s.now ≡ Some (p.0, p.1.now)) }
+    ensures { Parsed result (signed s.now) }
 {
-    match past(s, b'-') {
+    match s.strip_prefix(b"-") {
         Some(digits) => numeral(digits).map(|(n, rest)| (-(n as i32), rest)),
         None => numeral(s).map(|(n, rest)| (n as i32, rest)),
     }
@@ -72,9 +61,9 @@ fn signed(s: &[u8]) -> Option<(i32, &[u8])>
 
 // A space and then a signed numeral, and what follows it.
 fn flow(s: &[u8]) -> Option<(i32, &[u8])>
-    ensures { MatchOption result (flow s.now ≡ None) (λ p. flow s.now ≡ Some (p.0, p.1.now)) }
+    ensures { Parsed result (flow s.now) }
 {
-    signed(past(s, b' ')?)
+    signed(s.strip_prefix(b" ")?)
 }
 
 // The line, where nothing follows.
@@ -88,18 +77,16 @@ fn ended(s: &[u8], line: Line) -> Option<Line>
 fn comment(s: &[u8]) -> Option<Line>
     ensures { result ≡ comment s.now }
 {
-    if s.is_empty() || s[0] == b' ' {
-        Some(Line::Comment)
-    } else {
-        None
-    }
+    s.first()
+        .is_none_or(|b| *b == b' ')
+        .then_some(Line::Comment)
 }
 
 // What follows a `p`.
 fn problem(s: &[u8]) -> Option<Line>
     ensures { result ≡ problem s.now }
 {
-    let s = after(s, b" min")?;
+    let s = s.strip_prefix(b" min")?;
     let (nodes, s) = field(s)?;
     let (arcs, s) = field(s)?;
     ended(s, Line::Problem { nodes, arcs })
@@ -151,6 +138,7 @@ fn by_letter(s: &[u8]) -> Option<Line>
 
 impl Line {
     // The line that the bytes spell, if they have one of the forms.
+    #[tactic(auto, using(crate::proofs::Forms::spells))]
     pub fn scan(s: &[u8]) -> Option<Line>
         ensures found { result ≡ scan s.now }
         ensures spelled { Spelled result s.now }

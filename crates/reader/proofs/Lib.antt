@@ -3,5 +3,4 @@ pub mod RowEnds
 pub mod Sofar
 pub mod Steps
 pub mod Tables
-pub mod Taken
 pub mod Whole

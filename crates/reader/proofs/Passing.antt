@@ -1,12 +1,9 @@
 -- What is known of a line that was judged and taken.
-use Rattle.std.proofs.Common.{◌≡◌, ℕ, ◌≤◌, Bool, true, false, cond, Ok, Err, refl, arith}
-use Rattle.std.proofs.lemmas.Bool.Decides.{nat_tests}
+use Rattle.std.proofs.Common.{◌≡◌, ℕ, Bool, true, false, cond, Ok, Err, refl}
 use Rattle.lines.specs.declared.line.Line.{Line}
-use Rattle.lines.specs.declared.line.Line.TheVariants.{Comment, Problem, Node, Arc}
-use Rattle.text_rules.specs.Judging.{in_order, in_range, has_room, in_count, nodes_in, advanced, judged}
+use Rattle.text_rules.specs.Judging.{in_order, in_range, has_room, in_count, advanced, judged}
 use Rattle.text_rules.specs.declared.progress.Progress.{Progress}
 use Rattle.text_rules.specs.declared.progress.Room.{Room}
-use Rattle.reader.specs.Entering.{Small}
 
 -- a line that passed the four tests
 pub record Passed (room : Room) (p : Progress) (l : Line) (q : Progress) : Type 0 where
@@ -20,21 +17,12 @@ four : {X E P : Type 0} (a b c d : Bool) (x q : X) (e f g h : E)
     → cond a (cond b (cond c (cond d (Ok x) (Err h)) (Err g)) (Err f)) (Err e) ≡ Ok q
     → (a ≡ true → b ≡ true → c ≡ true → d ≡ true → q ≡ x → P) → P
 four true true true true x q e f g h is k = k refl refl refl refl (cc)
-four true true true false x q e f g h is k = let z : ◌≡◌ {A = ℕ} 0 1 = cc in absurd (omega arith)
-four true true false d x q e f g h is k = let z : ◌≡◌ {A = ℕ} 0 1 = cc in absurd (omega arith)
-four true false c d x q e f g h is k = let z : ◌≡◌ {A = ℕ} 0 1 = cc in absurd (omega arith)
-four false b c d x q e f g h is k = let z : ◌≡◌ {A = ℕ} 0 1 = cc in absurd (omega arith)
+four true true true false x q e f g h is k = cc
+four true true false d x q e f g h is k = cc
+four true false c d x q e f g h is k = cc
+four false b c d x q e f g h is k = cc
 
 pub passed : (room : Room) (p : Progress) (n : ℕ) (l : Line) (q : Progress) → judged room p n l ≡ Ok q → Passed room p l q
 passed room p n l q is =
     four (in_order p l) (in_range p l) (has_room room l) (in_count p l) (advanced p l) q _ _ _ _ is
     (λ a b c d e. record { ordered = a; ranged = b; roomy = c; counted = d; after = e })
-
-small_ranged : (p : Progress) (l : Line) → nodes_in p.header ≤ 240 → in_range p l ≡ true → Small l
-small_ranged p Comment few r = tt
-small_ranged p (Problem nodes arcs) few r = tt
-small_ranged p (Node id flow) few r = grind (arith, nat_tests)
-small_ranged p (Arc source target low capacity cost) few r = grind (arith, nat_tests)
-
-pub small : (room : Room) (p : Progress) (n : ℕ) (l : Line) (q : Progress) → nodes_in p.header ≤ 240 → judged room p n l ≡ Ok q → Small l
-small room p n l q few is = small_ranged p l few (passed room p n l q is).ranged

@@ -1,7 +1,6 @@
 -- Where a row ends.
-use Rattle.std.proofs.Common.{◌≡◌, ℕ, suc, ◌+◌, ◌-◌, ◌<◌, ◌≤◌, min, List, [], ◌∷◌, length, get_or, take, drop, MatchOption, Option, sym, refl, ap, ◌∙◌, ⊎_elim, add_assoc, arith}
-use native.Mathlib.Nat.{sub-zero}
-use Rattle.std.proofs.lemmas.List.{drop_more, drop_all, drop-drop, take_rest, length-take-le}
+use Rattle.std.proofs.Common.{◌≡◌, ℕ, suc, ◌+◌, ◌<◌, ◌≤◌, min, List, [], ◌∷◌, length, get_or, take, drop, MatchOption, Option, sym, refl, ap, ◌∙◌, ⊎_elim, add_assoc, arith}
+use Rattle.std.proofs.lemmas.List.{drop_more, drop_all, drop-drop}
 use Rattle.std.proofs.lemmas.Bool.{eq-eqb, ne_eqb, cases_eq, cases_lt}
 use Rattle.std.specs.Option.{unwrap_or}
 use Rattle.std.specs.List.{AllWithin, HoldsAt}
@@ -47,17 +46,6 @@ row_front s n e = first_front s ∙ ap (λ k. take k s) e
 
 pub row_behind : (s : List ℕ) (n : ℕ) → length (first_row s) ≡ n → behind s ≡ drop (n + 1) s
 row_behind s n e = behind_drop s ∙ ap (λ k. drop (k + 1) s) e
-
--- of `&text[place..]`, as the checker reads it: its first r bytes are its first row
-module _ (text : List ℕ) (place r : ℕ) (is : first_row (take (length text - place) (drop place text)) ≡ take r (take (length text - place) (drop place text))) where
-  plain : first_row (drop place text) ≡ take r (drop place text)
-  plain = rw (take_rest text place) at is
-
-  pub row_taken : take (r - 0) (take (length text - place) (drop place text)) ≡ first_row (drop place text)
-  row_taken = rw (take_rest text place, sub-zero r) (sym plain)
-
-  pub row_long : r ≤ length (take (length text - place) (drop place text)) → length (first_row (drop place text)) ≡ r
-  row_long h = ap length plain ∙ length-take-le r (drop place text) (rw (take_rest text place) at h)
 
 drop_min : (n : ℕ) (xs : List ℕ) → drop n xs ≡ drop (min (length xs) n) xs
 drop_min n xs =

@@ -9,39 +9,27 @@ use Rattle.records.specs.declared.leg.Leg.{Leg}
 use Rattle.records.specs.declared.station.Station.{Station}
 use Rattle.lines.specs.declared.line.Line.{Line}
 use Rattle.lines.specs.declared.line.Line.TheVariants.{Comment, Problem, Node, Arc}
-use Rattle.text_rules.specs.Judging.{nodes_in, arcs_in}
 use Rattle.text_rules.specs.Reading.{progress_of, padded, run}
 use Rattle.text_rules.specs.Rows.{rows}
-use Rattle.text_rules.specs.Rules.{NODES}
-use Rattle.text_rules.specs.Stated.{legs_of, balance_of, station_of, stations_of, leg_of}
+use Rattle.text_rules.specs.Rules.{nodes_of, arcs_of, NODES}
+use Rattle.text_rules.specs.Stated.{legs_of, balance_of, station_of, stations_of, leg_of, as_station}
 use Rattle.text_rules.specs.declared.progress.Header.{Header}
 use Rattle.text_rules.specs.declared.progress.Progress.{Progress}
 use Rattle.text_rules.specs.declared.progress.Room.{Room}
 use Rattle.reader.specs.Entering.{legs_with, stations_with}
+use Rattle.reader.specs.Taking.{State}
 use Rattle.reader.proofs.Passing.{Passed}
 use Rattle.reader.proofs.Tables.{padded_more, padded_set, padded_blank, station_set, stations_blank}
 
 -- the tables have room for what some lines announced, and the legs so far are as many as their arc lines
 pub record Sound (room : Room) (before : List Line) : Type 0 where
-  pub nodes_few : nodes_in (progress_of before).header ≤ 240
-  pub nodes_room : nodes_in (progress_of before).header ≤ room.stations
-  pub arcs_room : arcs_in (progress_of before).header ≤ room.legs
-  pub arcs_kept : (progress_of before).arcs ≤ arcs_in (progress_of before).header
+  pub nodes_few : nodes_of (progress_of before).header ≤ 240
+  pub nodes_room : nodes_of (progress_of before).header ≤ room.stations
+  pub arcs_room : arcs_of (progress_of before).header ≤ room.legs
+  pub arcs_kept : (progress_of before).arcs ≤ arcs_of (progress_of before).header
   pub legs_long : length (legs_of before) ≡ (progress_of before).arcs
-  pub nodes_same : NODES before ≡ nodes_in (progress_of before).header
+  pub nodes_same : NODES before ≡ nodes_of (progress_of before).header
   pub blank : (progress_of before).header ≡ None → (k : ℕ) → balance_of before k ≡ pos 0
-
-pub sound_none : (room : Room) → Sound room []
-sound_none room =
-    record {
-      nodes_few = omega arith;
-      nodes_room = omega arith;
-      arcs_room = omega arith;
-      arcs_kept = omega arith;
-      legs_long = refl;
-      nodes_same = refl;
-      blank = λ e k. refl;
-    }
 
 none_from : (o : Option Header) → not (is_some o) ≡ true → o ≡ None
 none_from None e = refl
@@ -99,14 +87,16 @@ abbrev pub StationsHeld : Room → List Line → List Station → Type 0
 StationsHeld room before stations = stations ≡ padded cleared_station room.stations (stations_of before)
 
 pub legs_more : (room : Room) (before : List Line) (l : Line) (q : Progress) (legs : List Leg) → Sound room before
-    → Passed room (progress_of before) l q → LegsHeld room before legs → LegsHeld room (l ∷ before) (legs_with l (progress_of before).arcs legs)
+    → Passed room (progress_of before) l q → LegsHeld room before legs → LegsHeld room (l ∷ before) (legs_with l q.arcs legs)
 legs_more room before Comment q legs s p held = held
 legs_more room before (Problem nodes arcs) q legs s p held = held
 legs_more room before (Node id flow) q legs s p held = held
 legs_more room before (Arc source target low capacity cost) q legs s p held =
     let v : Leg = leg_of source target capacity cost in
     let free : length (legs_of before) < room.legs = grind (arith, nat_tests) in
-    ap (λ xs. set xs (progress_of before).arcs v) held ∙ ap (λ i. set (padded cleared_leg room.legs (legs_of before)) i v) (sym s.legs_long)
+    let more : q.arcs ≡ (progress_of before).arcs + 1 = ap (λ (x : Progress). x.arcs) p.after in
+    let last : q.arcs - 1 ≡ length (legs_of before) = omega (arith, s.legs_long) in
+    ap (λ i. set legs i v) last ∙ ap (λ xs. set xs (length (legs_of before)) v) held
     ∙ padded_more cleared_leg v room.legs (legs_of before) free
 
 pub stations_more : (room : Room) (before : List Line) (l : Line) (q : Progress) (stations : List Station) → Sound room before
@@ -121,9 +111,9 @@ stations_more room before (Problem nodes arcs) q stations s p held =
     ∙ sym (ap (padded cleared_station room.stations) (stations_blank (Problem nodes arcs ∷ before) nodes blank)
     ∙ padded_blank cleared_station room.stations nodes new-room)
 stations_more room before (Node id flow) q stations s p held =
-    let v : Station = record { balance = flow } in
+    let v : Station = as_station flow in
     let low : 1 ≤ id = grind (arith, nat_tests) in
-    let under : id ≤ nodes_in (progress_of before).header = grind (arith, nat_tests) in
+    let under : id ≤ nodes_of (progress_of before).header = grind (arith, nat_tests) in
     let high : id ≤ NODES before = omega (arith, s.nodes_same) in
     let inside : id - 1 < length (stations_of before) = omega (arith, length-map-range_with_len (station_of before) 0 (NODES before)) in
     ap (λ xs. set xs (id - 1) v) held
@@ -132,11 +122,11 @@ stations_more room before (Node id flow) q stations s p held =
 stations_more room before (Arc source target low capacity cost) q stations s p held = held
 
 -- all that holds once some lines of a text are taken and entered
-pub record Sofar (room : Room) (text : List ℕ) (place lines : ℕ) (p : Progress) (legs : List Leg) (stations : List Station) : Type 0 where
+pub record Sofar (s : State) (legs : List Leg) (stations : List Station) : Type 0 where
   pub before : List Line
-  pub settled : p ≡ progress_of before
-  pub counted : lines ≡ length before
-  pub to_come : run room before (rows (drop place text)) ≡ run room [] (rows text)
-  pub legs_held : LegsHeld room before legs
-  pub stations_held : StationsHeld room before stations
-  pub sound : Sound room before
+  pub settled : s.progress ≡ progress_of before
+  pub counted : s.lines ≡ length before
+  pub to_come : run s.room before (rows (drop s.place s.text)) ≡ run s.room [] (rows s.text)
+  pub legs_held : LegsHeld s.room before legs
+  pub stations_held : StationsHeld s.room before stations
+  pub sound : Sound s.room before

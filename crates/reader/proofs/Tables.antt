@@ -9,7 +9,7 @@ use Rattle.records.specs.declared.station.Station.{Station}
 use Rattle.lines.specs.declared.line.Line.{Line}
 use Rattle.lines.specs.declared.line.Line.TheVariants.{Node}
 use Rattle.text_rules.specs.Reading.{padded}
-use Rattle.text_rules.specs.Stated.{balance_of, station_of}
+use Rattle.text_rules.specs.Stated.{balance_of, as_station, station_of}
 
 -- one record more behind those of a padded table
 pub padded_more : {X : Type 0} (blank v : X) (n : ℕ) (xs : List X) → length xs < n
@@ -31,16 +31,13 @@ padded_blank blank n k h =
     let e : k + (n - k) ≡ n = omega arith in
     rw (length-replicate k blank) (replicate-append-replicate k (n - k) blank ∙ ap (λ m. replicate m blank) e)
 
-abbrev as_station : ℤ → Station
-as_station z = record { balance = z }
-
 -- a node line alters the balance of its station and no other
 pub station_set : (before : List Line) (id n : ℕ) (flow : ℤ) → 1 ≤ id → id ≤ n
-    → set (map (station_of before) (range_with_len 0 n)) (id - 1) (record { balance = flow }) ≡ map (station_of (Node id flow ∷ before)) (range_with_len 0 n)
+    → set (map (station_of before) (range_with_len 0 n)) (id - 1) (as_station flow) ≡ map (station_of (Node id flow ∷ before)) (range_with_len 0 n)
 station_set before id n flow low high =
     let f : ℕ → Station = station_of before in
     let g : ℕ → Station = station_of (Node id flow ∷ before) in
-    let v : Station = record { balance = flow } in
+    let v : Station = as_station flow in
     let l : List Station = map f (range_with_len 0 n) in
     let long = length-set l (id - 1) v ∙ length-map-range_with_len f 0 n in
     ext_get_or cleared_station _ _ (long ∙ sym (length-map-range_with_len g 0 n)) (λ i h.

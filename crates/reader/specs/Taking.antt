@@ -1,10 +1,13 @@
 -- Taking one line of a text.
---   Fresh        a reader of a text that has taken no line yet
---   next_place   where the line behind the one at a place begins: behind its line end, or at the text's end
+--   State        where the reading of a text stands
+--   state_of     the state of a reader
+--   fresh        the state before the first line
 --   row_at       the bytes of the line at a place
+--   next_place   where the line behind the one at a place begins: behind its line end, or at the text's end
 --   judged_row   what is settled once a row is taken, or why it is not
---   judged_at    the same of the line at a place of a text
---   TookLine     what taking a line answers, and the place, the count of lines and what is settled after it
+--   judged_next  the same of the next line
+--   behind_next  the state behind the next line, by what is settled then
+--   TookLine     what taking a line answers, and the states before and after it
 use Rattle.std.specs.Prelude.{◌≡◌, ℕ, ◌+◌, ◌<◌, ◌≤◌, min, cond, List, length, drop, Some, None, Ok, Err, Option, Result, nat_le}
 use Rattle.records.specs.declared.refusal.Refusal.{Refusal}
 use Rattle.records.specs.declared.refusal.Refusal.TheVariants.{TextTooLong, LineOutOfForm}
@@ -14,14 +17,21 @@ use Rattle.text_rules.specs.Judging.{judged}
 use Rattle.text_rules.specs.Rows.{first_row}
 use Rattle.text_rules.specs.declared.progress.Progress.{Progress}
 use Rattle.text_rules.specs.declared.progress.Room.{Room}
+use Rattle.reader.specs.declared.under_way.Reader.{Reader}
 
--- a reader that has taken no line yet
-pub record Fresh (text : List ℕ) (room : Room) (text' : List ℕ) (place lines : ℕ) (p : Progress) (room' : Room) : Type 0 where
-  pub same_text : text' ≡ text
-  pub first_byte : place ≡ 0
-  pub no_line : lines ≡ 0
-  pub nothing_settled : p ≡ record { header = None; arcs = 0 }
-  pub same_room : room' ≡ room
+-- the text, the room of the tables, the place of the next line's first byte, how many lines were taken, and what they settled
+pub record State : Type 0 where
+  pub text : List ℕ
+  pub room : Room
+  pub place : ℕ
+  pub lines : ℕ
+  pub progress : Progress
+
+abbrev pub state_of : Reader → State
+state_of r = record { text = r.text.now; room = r.room; place = r.place; lines = r.lines; progress = r.progress }
+
+abbrev pub fresh : List ℕ → Room → State
+fresh text room = record { text = text; room = room; place = 0; lines = 0; progress = record { header = None; arcs = 0 } }
 
 abbrev pub row_at : List ℕ → ℕ → List ℕ
 row_at text place = first_row (drop place text)
@@ -33,18 +43,18 @@ abbrev pub judged_row : Room → Progress → ℕ → Option Line → Result Pro
 judged_row room p number None = Err (LineOutOfForm number)
 judged_row room p number (Some l) = judged room p number l
 
--- what is settled once the line at a place is taken, or why it is not; no line of a text that is too long is
-abbrev pub judged_at : Room → List ℕ → ℕ → ℕ → Progress → Result Progress Refusal
-judged_at room text place lines p =
-    cond (nat_le (length text) 65536) (judged_row room p (lines + 1) (scan (row_at text place))) (Err TextTooLong)
+-- no line of a text that is too long is taken
+abbrev pub judged_next : State → Result Progress Refusal
+judged_next s =
+    cond (nat_le (length s.text) 65536) (judged_row s.room s.progress (s.lines + 1) (scan (row_at s.text s.place))) (Err TextTooLong)
+
+abbrev pub behind_next : State → Progress → State
+behind_next s p = record { text = s.text; room = s.room; place = next_place s.text s.place; lines = s.lines + 1; progress = p }
 
 -- at the end of the text there is no line; an accepted line is passed; a refused one is not, and settles nothing
-abbrev pub TookLine : Result (Option Line) Refusal → Room → List ℕ → ℕ → ℕ → Progress → ℕ → ℕ → Progress → Type 0
-TookLine (Ok None) room text place lines p place' lines' p' =
-    (length text ≤ 65536) × (length text ≤ place) × (place' ≡ place) × (lines' ≡ lines) × (p' ≡ p)
-TookLine (Ok (Some l)) room text place lines p place' lines' p' =
-    (length text ≤ 65536) × (place < length text) × (scan (row_at text place) ≡ Some l) × (judged room p (lines + 1) l ≡ Ok p')
-    × (place' ≡ next_place text place) × (lines' ≡ lines + 1)
-TookLine (Err e) room text place lines p place' lines' p' =
-    (length text ≤ 65536 → place < length text) × (judged_at room text place lines p ≡ Err e)
-    × (place' ≡ place) × (lines' ≡ lines) × (p' ≡ p)
+abbrev pub TookLine : Result (Option Line) Refusal → State → State → Type 0
+TookLine (Ok None) s s' = (length s.text ≤ 65536) × (length s.text ≤ s.place) × (s' ≡ s)
+TookLine (Ok (Some l)) s s' =
+    (length s.text ≤ 65536) × (s.place < length s.text) × (scan (row_at s.text s.place) ≡ Some l)
+    × (judged s.room s.progress (s.lines + 1) l ≡ Ok s'.progress) × (s' ≡ behind_next s s'.progress)
+TookLine (Err e) s s' = (length s.text ≤ 65536 → s.place < length s.text) × (judged_next s ≡ Err e) × (s' ≡ s)

@@ -2,9 +2,10 @@
 #![tactic(auto)]
 
 mod guard;
-pub mod reader;
+mod reader;
 mod reading;
 mod taking;
+pub mod under_way;
 
-pub use reader::Reader;
 pub use reading::read;
+pub use under_way::Reader;

@@ -1,28 +1,16 @@
-// A text that is read line by line.
-ghost use Rattle.std.specs.Prelude.{◌≡◌, ◌≤◌, length};
+// Where a reader begins, where it stands, and how it ends.
+ghost use Rattle.std.specs.Prelude.{◌≡◌};
 ghost use Rattle.text_rules.specs.Judging.{finished};
-ghost use Rattle.reader.specs.Taking.{Fresh};
+ghost use Rattle.reader.specs.Taking.{state_of, fresh};
 
+use crate::under_way::Reader;
 use records::Refusal;
-use text_rules::{Progress, Room};
-
-// The text, the place of the next line's first byte, how many lines were taken and what they settled,
-// and the room of the tables that the text is read into.
-#[derive(Drop)]
-pub struct Reader<'a> {
-    pub(crate) text: &'a [u8],
-    pub(crate) place: usize,
-    pub(crate) lines: usize,
-    pub(crate) progress: Progress,
-    pub(crate) room: Room,
-    ghost inside: { place ≤ length text.now },
-    ghost counted: { lines ≤ place },
-}
+use text_rules::{Header, Progress, Room};
 
 impl<'a> Reader<'a> {
     // A reader at the first byte of a text, for tables of the given room.
     pub fn new(text: &'a [u8], room: Room) -> Reader<'a>
-        ensures { Fresh text.now room result.text.now result.place result.lines result.progress result.room }
+        ensures { state_of result ≡ fresh text.now room }
     {
         Reader {
             text,
@@ -40,8 +28,8 @@ impl<'a> Reader<'a> {
         self.place
     }
 
-    // The numbers of nodes and arcs, where the lines taken so far are a whole text.
-    pub(crate) fn finish(&self) -> Result<(usize, usize), Refusal>
+    // What the problem line announced, where the lines taken so far are a whole text.
+    pub(crate) fn finish(&self) -> Result<Header, Refusal>
         ensures { result ≡ finished self.now.progress self.now.lines }
     {
         self.progress.finish(self.lines)

@@ -2,12 +2,12 @@
 ghost use Rattle.std.specs.Prelude.{◌≡◌, ℕ, ◌+◌, ◌<◌, ◌≤◌, [], ◌++◌, length, take, drop};
 ghost use Rattle.text_rules.specs.Rows.{first_row, behind};
 ghost use Rattle.lines.specs.Scan.{scan};
-ghost use Rattle.reader.specs.Taking.{TookLine, next_place, row_at};
+ghost use Rattle.reader.specs.Taking.{TookLine, state_of, next_place, row_at};
 
 use crate::guard::Guard;
-use crate::reader::Reader;
+use crate::under_way::Reader;
 use lines::Line;
-use records::Refusal;
+use records::{MOST_TEXT, Refusal};
 
 // The number of bytes before the first line end.
 fn row_length(s: &[u8]) -> usize
@@ -32,12 +32,10 @@ fn line_at(text: &[u8], place: usize) -> (Option<Line>, usize)
 impl Reader<'_> {
     // The next line, if there is one. A line that is refused leaves the reader at its first byte.
     pub fn take_line(&mut self) -> Result<Option<Line>, Refusal>
-        ensures took { TookLine result self.old.room self.old.text.now self.old.place self.old.lines self.old.progress self.new.place self.new.lines self.new.progress }
-        ensures text { self.new.text.now ≡ self.old.text.now }
-        ensures room { self.new.room ≡ self.old.room }
+        ensures { TookLine result (state_of self.old) (state_of self.new) }
     {
         let text = self.text;
-        if text.len() > 65536 {
+        if text.len() > MOST_TEXT {
             return Err(Refusal::TextTooLong);
         }
         if self.place >= text.len() {
@@ -46,9 +44,7 @@ impl Reader<'_> {
         let number = self.lines + 1;
         let (line, next) = line_at(text, self.place);
         let mut guard = Guard::moved(&mut self.place, next);
-        let Some(line) = line else {
-            return Err(Refusal::LineOutOfForm { line: number });
-        };
+        let line = line.ok_or(Refusal::LineOutOfForm { line: number })?;
         self.progress = self.progress.judge(self.room, number, line)?;
         self.lines = number;
         guard.accept();

@@ -1,53 +1,47 @@
 // Every byte in one place of a text.
-use crate::print;
+use crate::cases::Frame;
+use crate::print::Answered;
 use reader::read;
 use records::{Leg, Refusal, Station};
 use std::alloc::{AllocError, Global};
 use std::io;
+use text_rules::Header;
 
 // What a reading answers.
-type Answer = Result<(usize, usize), Refusal>;
+type Answer = Result<Header, Refusal>;
 
-// What stands before and behind the byte.
-#[derive(Drop)]
-struct Gap {
-    before: &'static str,
-    behind: &'static str,
-}
-
-// Reads the text with a byte in the gap.
-fn answer_with(heap: Global, gap: &Gap, byte: u8) -> Result<Answer, AllocError> {
-    let mut text = Vec::from_slice(heap, gap.before.as_bytes())?;
-    text.extend_from_slice(&[byte])?;
-    text.extend_from_slice(gap.behind.as_bytes())?;
+// Reads the text with a byte in the frame.
+fn answer_with(heap: Global, frame: &Frame, byte: u8) -> Result<Answer, AllocError> {
+    let pieces = [frame.before.as_bytes(), &[byte], frame.behind.as_bytes()];
+    let text = pieces.concat(heap)?;
     let mut legs = [Leg::default(); 2];
     let mut stations = [Station::default(); 2];
     Ok(read(text.as_slice(), &mut legs, &mut stations))
 }
 
-// What is answered with each byte in the gap.
-fn answers(heap: Global, gap: &Gap) -> Result<Vec<Answer>, AllocError> {
+// What is answered with each byte in the frame.
+fn answers(heap: Global, frame: &Frame) -> Result<Vec<Answer>, AllocError> {
     (0..=255u8)
-        .map(|byte| answer_with(heap, gap, byte))
+        .map(|byte| answer_with(heap, frame, byte))
         .try_collect(heap)
 }
 
-// The number of a refusal, 0 where the text is accepted.
-fn number_of(answer: Answer) -> u8 {
-    answer.err().map_or(0, |refusal| refusal.number())
+// The number of the refusal, where the text is refused.
+fn number_of(answer: Answer) -> Option<u8> {
+    answer.err().map(|refusal| refusal.number())
 }
 
-// How many answers have a number.
-fn count(answers: &[Answer], number: u8) -> usize {
+// How many answers are refusals of a number, or accept.
+fn count(answers: &[Answer], number: Option<u8>) -> usize {
     answers.iter().filter(|a| number_of(**a) == number).count()
 }
 
-// Prints how many bytes have each answer.
+// Prints how many bytes have each answer: accepted, and each number that a refusal of a text may have.
 fn tally(rt: &HostRuntime, name: &str, answers: &[Answer]) -> io::Result<()> {
-    let ok = count(answers, 0);
+    let ok = count(answers, None);
     print!(rt; "{name}: ok {ok}, refused")?;
-    for number in 1..7u8 {
-        let refused = count(answers, number);
+    for number in 1..=6u8 {
+        let refused = count(answers, Some(number));
         print!(rt; " {refused}")?;
     }
     println!(rt; "")
@@ -60,13 +54,11 @@ fn list(
     before: &'static str,
     behind: &'static str,
 ) -> io::Result<()> {
-    let answers = answers(rt.alloc(), &Gap { before, behind })?;
+    let answers = answers(rt.alloc(), &Frame::new(before, behind))?;
     tally(rt, name, answers.as_slice())?;
     for (byte, answer) in answers.iter().enumerate() {
-        if number_of(*answer) != 2 {
-            print!(rt; "  {byte} ")?;
-            print::answer(rt, *answer)?;
-            println!(rt; "")?;
+        if number_of(*answer) != Some(2) {
+            println!(rt; "  {byte} {}", Answered(*answer))?;
         }
     }
     Ok(())
@@ -110,10 +102,6 @@ pub(crate) fn later(rt: &HostRuntime) -> io::Result<()> {
         "p min 1 0",
         " 7\n",
     )?;
-    let gap = Gap {
-        before: "p min 1 0\nc ",
-        behind: "",
-    };
-    let answers = answers(rt.alloc(), &gap)?;
+    let answers = answers(rt.alloc(), &Frame::new("p min 1 0\nc ", ""))?;
     tally(rt, "byte behind \"c \"", answers.as_slice())
 }

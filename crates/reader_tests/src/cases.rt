@@ -1,9 +1,9 @@
 // Reads texts into tables whose records held something before.
-use crate::print;
+use crate::print::{self, Answered};
 use reader::read;
 use records::{Leg, Mark, Station};
 use std::io;
-use text_rules::Room;
+use text_rules::{Header, Room};
 
 // What every leg record holds before a reading.
 pub const USED_LEG: Leg = Leg {
@@ -18,12 +18,13 @@ pub const USED_LEG: Leg = Leg {
 pub const USED_STATION: Station = Station { balance: -9 };
 
 // The room of the tables that short texts are read into.
-const SMALL: Room = Room {
+pub const SMALL: Room = Room {
     stations: 8,
     legs: 8,
 };
 
-// What stands before and behind a line, the room of the tables, and whether the network is printed.
+// What stands before and behind a line, the room of the tables, and whether the network is printed: `shown` is yes or no, as
+// a frame is asked for it by name.
 #[derive(Drop)]
 pub struct Frame {
     pub before: &'static str,
@@ -68,8 +69,8 @@ pub(crate) fn read_into(rt: &HostRuntime, text: &[u8], room: Room, shown: bool) 
     let mut legs = vec![in rt.alloc(); USED_LEG; room.legs]?;
     let mut stations = vec![in rt.alloc(); USED_STATION; room.stations]?;
     let answer = read(text, legs.as_mut_slice(), stations.as_mut_slice());
-    print::answer(rt, answer)?;
-    let (nodes, arcs) = answer.unwrap_or((0, 0));
+    print!(rt; "{}", Answered(answer))?;
+    let Header { nodes, arcs } = answer.unwrap_or(Header { nodes: 0, arcs: 0 });
     let (read_legs, other_legs) = legs.as_slice().split_at(arcs.min(room.legs));
     let (read_stations, other_stations) = stations.as_slice().split_at(nodes.min(room.stations));
     if shown && answer.is_ok() {

@@ -1,8 +1,9 @@
 // What one reading after another leaves in the same tables.
 use crate::cases::{USED_LEG, USED_STATION};
-use crate::{print, texts};
+use crate::print::{self, Answered};
+use crate::texts;
 use reader::read;
-use records::{Leg, Station};
+use records::{Leg, MOST_TEXT, Station};
 use std::io;
 
 // A text that fills four stations and three legs.
@@ -34,8 +35,7 @@ fn read_again(
     stations: &mut [Station],
 ) -> io::Result<()> {
     let answer = read(text.as_bytes(), legs, stations);
-    print!(rt; "{name}: ")?;
-    print::answer(rt, answer)?;
+    print!(rt; "{name}: {}", Answered(answer))?;
     print::stations(rt, stations)?;
     print::legs(rt, legs)?;
     println!(rt; "")
@@ -54,7 +54,7 @@ pub(crate) fn filled_records(rt: &HostRuntime) -> io::Result<()> {
     for (name, text) in &TEXTS {
         over_filled(rt, name, text)?;
     }
-    let long = texts::padded(rt.alloc(), FILLS, 65537)?;
+    let long = texts::padded(rt.alloc(), FILLS, MOST_TEXT + 1)?;
     over_filled(rt, "too long", long.as_str())
 }
 

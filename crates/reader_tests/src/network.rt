@@ -1,28 +1,35 @@
 // A network of 240 stations and 3,000 legs: every record is compared with what the text says.
 use crate::cases::{USED_LEG, USED_STATION};
-use crate::print;
+use crate::print::Answered;
 use reader::read;
-use records::{Leg, Mark, Station};
+use records::{
+    Leg, MOST_CAPACITY, MOST_CHARGE, MOST_LEGS, MOST_REPORTED, MOST_STATIONS, Mark, Station,
+};
 use std::alloc::{AllocError, Global};
 use std::{io, iter};
 use text_rules::id_of;
 
+// As many stations as a network may have. Cast: no `From` narrows, and 240 fits.
+const STATIONS: u16 = MOST_STATIONS as u16;
+
 // The first station.
-const FIRST_STATION: Station = Station { balance: -500 };
+const FIRST_STATION: Station = Station {
+    balance: -MOST_REPORTED,
+};
 
 // The first leg.
 const FIRST_LEG: Leg = Leg {
     start: 0,
-    end: 239,
-    capacity: 500,
-    charge: 10_000,
+    end: STATIONS - 1,
+    capacity: MOST_CAPACITY,
+    charge: MOST_CHARGE,
     mark: Mark::Open,
 };
 
 // The next station.
 fn next_station(station: Station) -> Station {
     Station {
-        balance: station.balance.saturating_add(5).min(500),
+        balance: station.balance.saturating_add(5).min(MOST_REPORTED),
     }
 }
 
@@ -30,9 +37,9 @@ fn next_station(station: Station) -> Station {
 fn next_leg(leg: Leg) -> Leg {
     Leg {
         start: leg.end,
-        end: leg.end.wrapping_add(7) % 240,
-        capacity: leg.capacity.wrapping_add(37) % 501,
-        charge: leg.charge.wrapping_add(911) % 10_001,
+        end: leg.end.wrapping_add(7) % STATIONS,
+        capacity: leg.capacity.wrapping_add(37) % (MOST_CAPACITY + 1),
+        charge: leg.charge.wrapping_add(911) % (MOST_CHARGE + 1),
         mark: Mark::Open,
     }
 }
@@ -40,11 +47,10 @@ fn next_leg(leg: Leg) -> Leg {
 // The lines of the stations.
 fn node_lines(heap: Global) -> Result<String, AllocError> {
     let mut text = String::new(heap);
-    let mut station = FIRST_STATION;
-    for id in 1..241u32 {
+    let stations = iter::successors(Some(FIRST_STATION), |station| Some(next_station(*station)));
+    for (id, station) in (1..=MOST_STATIONS).zip(stations) {
         let balance = station.balance;
         writeln!(text, "n {id} {balance}")?;
-        station = next_station(station);
     }
     Ok(text)
 }
@@ -52,14 +58,13 @@ fn node_lines(heap: Global) -> Result<String, AllocError> {
 // The lines of the legs.
 fn arc_lines(heap: Global) -> Result<String, AllocError> {
     let mut text = String::new(heap);
-    let mut leg = FIRST_LEG;
-    for _ in 0..3000u32 {
+    let legs = iter::successors(Some(FIRST_LEG), |leg| Some(next_leg(*leg)));
+    for leg in legs.take(MOST_LEGS) {
         let source = id_of(leg.start);
         let target = id_of(leg.end);
         let capacity = leg.capacity;
         let cost = leg.charge;
         writeln!(text, "a {source} {target} 0 {capacity} {cost}")?;
-        leg = next_leg(leg);
     }
     Ok(text)
 }
@@ -85,19 +90,20 @@ fn others<T: Copy + PartialEq, F: Fn(T) -> T>(records: &[T], first: T, next: F) 
 // Reads the network, and prints how many records differ from it.
 pub(crate) fn whole(rt: &HostRuntime) -> io::Result<()> {
     let text = text(rt.alloc())?;
-    let mut legs = vec![in rt.alloc(); USED_LEG; 3000]?;
-    let mut stations = vec![in rt.alloc(); USED_STATION; 240]?;
+    let mut legs = vec![in rt.alloc(); USED_LEG; MOST_LEGS]?;
+    let mut stations = vec![in rt.alloc(); USED_STATION; MOST_STATIONS]?;
     let answer = read(
         text.as_str().as_bytes(),
         legs.as_mut_slice(),
         stations.as_mut_slice(),
     );
-    print!(rt; "240 nodes and 3000 arcs: ")?;
-    print::answer(rt, answer)?;
     let count = others(stations.as_slice(), FIRST_STATION, next_station).saturating_add(others(
         legs.as_slice(),
         FIRST_LEG,
         next_leg,
     ));
-    println!(rt; ", {count} records differ")
+    println!(rt;
+        "240 nodes and 3000 arcs: {}, {count} records differ",
+        Answered(answer)
+    )
 }

@@ -1,29 +1,35 @@
 // Taking one line after another, and the reader's place after each.
+use crate::cases::SMALL;
 use crate::texts;
 use lines::Line;
 use reader::Reader;
-use std::io;
-use text_rules::Room;
+use records::{MOST_TEXT, Refusal};
+use std::{fmt, io};
 
-// The room that the readers are told.
-const ROOM: Room = Room {
-    stations: 8,
-    legs: 8,
-};
+// What taking a line answered, as it is printed.
+#[derive(Clone, Copy)]
+struct Taken(Result<Option<Line>, Refusal>);
 
-// A line that was taken.
-fn print_line(rt: &HostRuntime, line: Line) -> io::Result<()> {
-    match line {
-        Line::Comment => print!(rt; "comment"),
-        Line::Problem { nodes, arcs } => print!(rt; "problem {nodes} {arcs}"),
-        Line::Node { id, flow } => print!(rt; "node {id} {flow}"),
-        Line::Arc {
-            source,
-            target,
-            low,
-            capacity,
-            cost,
-        } => { print!(rt; "arc {source} {target} {low} {capacity} {cost}") }
+impl fmt::Display for Taken {
+    fn fmt<W: fmt::Write>(&self, f: &mut fmt::Formatter<W>) -> fmt::Result {
+        match self.0 {
+            Ok(Some(Line::Comment)) => f.write_str("comment"),
+            Ok(Some(Line::Problem { nodes, arcs })) => write!(f, "problem {nodes} {arcs}"),
+            Ok(Some(Line::Node { id, flow })) => write!(f, "node {id} {flow}"),
+            Ok(
+                Some(
+                    Line::Arc {
+                        source,
+                        target,
+                        low,
+                        capacity,
+                        cost,
+                    },
+                ),
+            ) => write!(f, "arc {source} {target} {low} {capacity} {cost}"),
+            Ok(None) => f.write_str("end"),
+            Err(refusal) => write!(f, "{refusal}"),
+        }
     }
 }
 
@@ -31,18 +37,12 @@ fn print_line(rt: &HostRuntime, line: Line) -> io::Result<()> {
 fn take(rt: &HostRuntime, reader: &mut Reader) -> io::Result<()> {
     let answer = reader.take_line();
     let place = reader.place();
-    print!(rt; "  ")?;
-    match answer {
-        Ok(Some(line)) => print_line(rt, line)?,
-        Ok(None) => print!(rt; "end")?,
-        Err(refusal) => print!(rt; "{refusal}")?,
-    }
-    println!(rt; ", place {place}")
+    println!(rt; "  {}, place {place}", Taken(answer))
 }
 
-// Takes so many lines.
+// Takes so many lines. Calls are counted: the last ones are to find no line.
 fn follow(rt: &HostRuntime, text: &[u8], calls: usize) -> io::Result<()> {
-    let mut reader = Reader::new(text, ROOM);
+    let mut reader = Reader::new(text, SMALL);
     let place = reader.place();
     println!(rt; "  new, place {place}")?;
     for _ in 0..calls {
@@ -76,7 +76,7 @@ pub(crate) fn all(rt: &HostRuntime) -> io::Result<()> {
 
 // A text that is too long is refused at its first line.
 pub(crate) fn too_long(rt: &HostRuntime) -> io::Result<()> {
-    let text = texts::padded(rt.alloc(), "p min 1 0\n", 65537)?;
+    let text = texts::padded(rt.alloc(), "p min 1 0\n", MOST_TEXT + 1)?;
     println!(rt; "a text of 65537 bytes")?;
     follow(rt, text.as_str().as_bytes(), 2)
 }

@@ -1,16 +1,22 @@
 // Prints what a reading answers, and what tables hold.
 use records::{Leg, Refusal, Station};
-use std::io;
+use std::{fmt, io};
+use text_rules::Header;
 
-// What a reading answered.
-pub(crate) fn answer(rt: &HostRuntime, answer: Result<(usize, usize), Refusal>) -> io::Result<()> {
-    match answer {
-        Ok((nodes, arcs)) => print!(rt; "ok {nodes} {arcs}"),
-        Err(refusal) => print!(rt; "{refusal}"),
+// What a reading answered, as it is printed.
+#[derive(Clone, Copy)]
+pub(crate) struct Answered(pub(crate) Result<Header, Refusal>);
+
+impl fmt::Display for Answered {
+    fn fmt<W: fmt::Write>(&self, f: &mut fmt::Formatter<W>) -> fmt::Result {
+        match self.0 {
+            Ok(Header { nodes, arcs }) => write!(f, "ok {nodes} {arcs}"),
+            Err(refusal) => write!(f, "{refusal}"),
+        }
     }
 }
 
-// The balances of the stations.
+// The balances of the stations, in words of these tests.
 pub(crate) fn stations(rt: &HostRuntime, stations: &[Station]) -> io::Result<()> {
     print!(rt; ", balances")?;
     for station in stations {
@@ -20,7 +26,7 @@ pub(crate) fn stations(rt: &HostRuntime, stations: &[Station]) -> io::Result<()>
     Ok(())
 }
 
-// The fields of the legs.
+// The fields of the legs, in words of these tests: records have no `Display`.
 pub(crate) fn legs(rt: &HostRuntime, legs: &[Leg]) -> io::Result<()> {
     for leg in legs {
         let Leg {

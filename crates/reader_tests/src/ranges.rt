@@ -1,6 +1,7 @@
 // Fields on both sides of their limits.
 use crate::cases;
 use crate::cases::Frame;
+use records::{MOST_LEGS, MOST_STATIONS};
 use std::io;
 use text_rules::Room;
 
@@ -99,8 +100,8 @@ const MOST_ARCS: [&str; 5] = [
 
 // Tables that are one record longer than any network.
 const WIDE: Room = Room {
-    stations: 241,
-    legs: 3001,
+    stations: MOST_STATIONS + 1,
+    legs: MOST_LEGS + 1,
 };
 
 // Every line, where its kind may stand.

@@ -1,5 +1,6 @@
 // Texts read into tables that are too short, just long enough and longer.
 use crate::cases;
+use records::{MOST_LEGS, MOST_STATIONS};
 use std::io;
 use text_rules::Room;
 
@@ -29,7 +30,13 @@ const TWO_ARCS_ROOMS: [(usize, usize); 9] = [
     (300, 4000),
 ];
 
-const LARGEST: [(usize, usize); 5] = [(239, 3000), (240, 2999), (240, 3000), (241, 3001), (0, 0)];
+const LARGEST: [(usize, usize); 5] = [
+    (MOST_STATIONS - 1, MOST_LEGS),
+    (MOST_STATIONS, MOST_LEGS - 1),
+    (MOST_STATIONS, MOST_LEGS),
+    (MOST_STATIONS + 1, MOST_LEGS + 1),
+    (0, 0),
+];
 
 // Every text and every room.
 pub(crate) fn all(rt: &HostRuntime) -> io::Result<()> {

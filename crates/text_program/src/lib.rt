@@ -4,12 +4,13 @@
 ghost use Rattle.std.specs.Prelude.{◌≡◌, ℕ, List, IfOk, OnOk, IfSome, take, string_bytes};
 ghost use Rattle.text_program.specs.Told.{Told};
 
+use records::MOST_TEXT;
 use std::alloc::{AllocError, Global};
 use std::io;
 use std::io::{Read, Write};
 
-// One byte more than the longest text is enough to know that a text is too long.
-const MOST_READ: u64 = 65537;
+// One byte more than the longest text is enough to know that a text is too long. Cast: no `From` goes from usize to u64.
+const MOST_READ: u64 = MOST_TEXT as u64 + 1;
 
 // The first bytes of a reader.
 fn read_text<R: Read + Drop>(heap: Global, input: R) -> io::Result<Vec<u8>>
@@ -20,7 +21,7 @@ fn read_text<R: Read + Drop>(heap: Global, input: R) -> io::Result<Vec<u8>>
     Ok(text)
 }
 
-// How a text is answered.
+// How a text is answered. A trait and no closure: what is promised cites a ghost member, which a closure has not.
 pub trait TextAnswer {
     // a text, and bytes that may answer it
     ghost answers: { List ℕ → List ℕ → Type 0 };

@@ -1,26 +1,19 @@
 -- The tests of a line decide what the rules ask.
 --   header_is, arcs_is   what some lines settled, by the rules' words
 --   decides_order, decides_range, decides_room, decides_count   each test holds exactly where its rule is kept
-use Rattle.std.proofs.Common.{◌≡◌, ℕ, ◌+◌, ◌≤◌, not, leb, List, [], ◌∷◌, ℤ, pos, negsuc, ◌≤ℤ◌, is_some, Some, None, Decides, Option, sym, refl, ap, ◌∙◌, arith}
+use Rattle.std.proofs.Common.{◌≡◌, ℕ, ◌+◌, ◌≤◌, not, leb, List, [], ◌∷◌, ℤ, pos, negsuc, ◌≤ℤ◌, is_some, Some, None, Decides, Option, sym, refl, ap, arith}
 use lib.Signed.{le_z}
-use Rattle.std.specs.Option.{option_map}
 use Rattle.std.proofs.lemmas.Int.{ints}
 use Rattle.std.proofs.lemmas.Bool.{true≢false}
 use Rattle.std.proofs.lemmas.Bool.Decides.{nat_tests, Decides-eqb, Decides-ltb, Decides-and, Decides-not, Decides-like}
-use Rattle.lines.proofs.Fronts.{none_some}
 use Rattle.lines.specs.declared.line.Line.{Line}
 use Rattle.lines.specs.declared.line.Line.TheVariants.{Comment, Problem, Node, Arc}
-use Rattle.text_rules.specs.Judging.{nodes_in, arcs_in, in_order, is_node, in_range, has_room, in_count}
+use Rattle.text_rules.specs.Judging.{in_order, is_node, in_range, has_room, in_count}
 use Rattle.text_rules.specs.Reading.{progress_of}
 use Rattle.text_rules.specs.Rules.{problem_in, nodes_of, arcs_of, NODES, ARCS, arc_lines, InOrder, IsNode, InRange, HasRoom, InCount}
-use Rattle.text_rules.specs.declared.progress.Header.{Header}
 use Rattle.text_rules.specs.declared.progress.Room.{Room}
 
--- a problem line's numbers as a header
-abbrev pub as_header : ℕ × ℕ → Header
-as_header p = record { nodes = p.0; arcs = p.1 }
-
-pub header_is : (before : List Line) → (progress_of before).header ≡ option_map as_header (problem_in before)
+pub header_is : (before : List Line) → (progress_of before).header ≡ problem_in before
 header_is [] = refl
 header_is (Comment ∷ before) = header_is before
 header_is (Problem nodes arcs ∷ before) = refl
@@ -34,33 +27,21 @@ arcs_is (Problem nodes arcs ∷ before) = arcs_is before
 arcs_is (Node id flow ∷ before) = arcs_is before
 arcs_is (Arc source target low capacity cost ∷ before) = ap (λ n. n + 1) (arcs_is before)
 
-is_some_mapped : {X Y : Type 0} (f : X → Y) (o : Option X) → is_some (option_map f o) ≡ is_some o
-is_some_mapped f None = refl
-is_some_mapped f (Some x) = refl
-
 announced_is : (before : List Line) → is_some (progress_of before).header ≡ is_some (problem_in before)
-announced_is before = ap is_some (header_is before) ∙ is_some_mapped as_header (problem_in before)
+announced_is before = ap is_some (header_is before)
 
-nodes_mapped : (o : Option (ℕ × ℕ)) → nodes_in (option_map as_header o) ≡ nodes_of o
-nodes_mapped None = refl
-nodes_mapped (Some p) = refl
+nodes_is : (before : List Line) → nodes_of (progress_of before).header ≡ NODES before
+nodes_is before = ap nodes_of (header_is before)
 
-arcs_mapped : (o : Option (ℕ × ℕ)) → arcs_in (option_map as_header o) ≡ arcs_of o
-arcs_mapped None = refl
-arcs_mapped (Some p) = refl
-
-nodes_is : (before : List Line) → nodes_in (progress_of before).header ≡ NODES before
-nodes_is before = ap nodes_in (header_is before) ∙ nodes_mapped (problem_in before)
-
-total_is : (before : List Line) → arcs_in (progress_of before).header ≡ ARCS before
-total_is before = ap arcs_in (header_is before) ∙ arcs_mapped (problem_in before)
+total_is : (before : List Line) → arcs_of (progress_of before).header ≡ ARCS before
+total_is before = ap arcs_of (header_is before)
 
 decides_le : (a b : ℕ) → Decides (leb a b) (a ≤ b)
 decides_le a b = (λ e. grind (arith, nat_tests), λ h. grind (arith, nat_tests))
 
 decides_none : {X : Type 0} (o : Option X) → Decides (not (is_some o)) (o ≡ None)
 decides_none None = (λ _. refl, λ _. refl)
-decides_none (Some x) = (λ e. absurd (true≢false (sym e)), λ e. none_some (sym e))
+decides_none (Some x) = (λ e. absurd (true≢false (sym e)), λ e. cc)
 
 pub decides_order : (before : List Line) (l : Line) → Decides (in_order (progress_of before) l) (InOrder before l)
 decides_order before Comment = (λ _. tt, λ _. refl)

@@ -11,6 +11,7 @@ use Rattle.lines.specs.declared.line.Line.TheVariants.{Comment, Problem, Node, A
 use Rattle.text_rules.specs.Rules.{nodes_of, NODES, ARCS, Announced}
 use Rattle.text_rules.specs.Legal.{LegLawful, Bounded, Legal}
 use Rattle.text_rules.specs.Stated.{StatedNetwork, States, Lawful, Complete, leg_of, legs_of, balance_of, station_of, stations_of}
+use Rattle.text_rules.specs.declared.progress.Header.{Header}
 use Rattle.text_rules.proofs.Sizing.{length_legs, length_stations}
 
 -- no leg is lawful among no stations
@@ -22,7 +23,7 @@ legs_lawful [] w = tt
 legs_lawful (Comment ∷ before) w = legs_lawful before w.3
 legs_lawful (Problem nodes arcs ∷ before) w =
     All-weaker (LegLawful 0) (LegLawful nodes) (never_lawful nodes) (legs_of before)
-    (subst (λ (o : Option (ℕ × ℕ)). AllByRecursion (LegLawful (nodes_of o)) (legs_of before)) w.0 (legs_lawful before w.3))
+    (subst (λ (o : Option Header). AllByRecursion (LegLawful (nodes_of o)) (legs_of before)) w.0 (legs_lawful before w.3))
 legs_lawful (Node id flow ∷ before) w = legs_lawful before w.3
 legs_lawful (Arc source target low capacity cost ∷ before) w =
     let r = w.1 in

@@ -3,7 +3,6 @@
 --   Ruled, ruling    the row is taken as the line that it spells and that keeps every rule, or the refusal is that
 --                    of the lowest rule broken
 --   ruled_keeps      a line that keeps every rule is taken
---   RefusedAt        a result is a refusal of a number and a place
 --   ruled_lowest     the lowest rule broken is the refusal's
 use Rattle.std.proofs.Common.{◌≡◌, ℕ, ◌+◌, ◌<◌, ◌≤◌, List, length, Some, None, Ok, Err, Option, Result, sym, refl, subst, inl, inr, arith}
 use Rattle.std.proofs.lemmas.Bool.{cases_order, cond_both}
@@ -16,8 +15,8 @@ use Rattle.lines.specs.Scan.{scan}
 use Rattle.lines.specs.declared.line.Line.{Line}
 use Rattle.lines.proofs.Forms.{written_scan, spells}
 use Rattle.text_rules.specs.Judging.{in_order, in_range, has_room, in_count, judged, advanced}
-use Rattle.text_rules.specs.Reading.{progress_of, ruled, ◌next◌}
-use Rattle.text_rules.specs.Rules.{InOrder, InRange, HasRoom, InCount, Rule, form, order, range, tables, count, rule_number, Spells_but, Breaks, Lowest}
+use Rattle.text_rules.specs.Reading.{progress_of, ruled, ◌next◌, RefusedAs}
+use Rattle.text_rules.specs.Rules.{InOrder, InRange, HasRoom, InCount, Rule, form, order, range, tables, count, rule_number, SpellsBut, Breaks, Lowest}
 use Rattle.text_rules.specs.declared.progress.Progress.{Progress}
 use Rattle.text_rules.specs.declared.progress.Room.{Room}
 use Rattle.text_rules.proofs.Deciding.{decides_order, decides_range, decides_room, decides_count}
@@ -32,9 +31,6 @@ abbrev pub Ruled : Room → List Line → List ℕ → Result Line Refusal → T
 Ruled room before row (Ok l) = Written l row × Keeps room before l
 Ruled room before row (Err e) = Lowest room before row (number e) × (place e ≡ length before + 1)
 
-abbrev pub RefusedAt : {X : Type 0} → Result X Refusal → ℕ → ℕ → Type 0
-RefusedAt r k at = (e : Refusal) × (r ≡ Err e) × (number e ≡ k) × (place e ≡ at)
-
 rule_range : (rule : Rule) → (2 ≤ rule_number rule) × (rule_number rule < 7)
 rule_range form = (omega arith, omega arith)
 rule_range order = (omega arith, omega arith)
@@ -44,7 +40,7 @@ rule_range count = (omega arith, omega arith)
 
 -- the only line that a row spells keeps what it keeps
 holds_still : (row : List ℕ) (l : Line) → ((k : Line) → Written k row → k ≡ l)
-    → (P : Line → Type 0) → P l → Spells_but row P → ⊥
+    → (P : Line → Type 0) → P l → SpellsBut row P → ⊥
 holds_still row l only P p (k, w, fails) = fails (subst P (sym (only k w)) p)
 
 module _ (room : Room) (before : List Line) (row : List ℕ) where
@@ -130,7 +126,7 @@ module _ (room : Room) (before : List Line) (row : List ℕ) where
   ruling_as (Some l) s = judging l s
 
   pub ruling : Ruled room before row (ruled room before (scan row))
-  ruling = ruling_as (scan row) (spells row)
+  ruling = ruling_as (scan row) (spells (scan row) row refl)
 
   pub ruled_keeps : (l : Line) → Written l row → Keeps room before l → ruled room before (scan row) ≡ Ok l
   ruled_keeps l w kept =
@@ -154,9 +150,9 @@ module _ (room : Room) (before : List Line) (row : List ℕ) where
   only_line l w = (w, λ k v. let p = written_scan k row v in let q = written_scan l row w in cc)
 
   lowest_as : (r : Result Line Refusal) → Ruled room before row r
-      → (k : ℕ) → Lowest room before row k → RefusedAt r k (length before + 1)
+      → (k : ℕ) → Lowest room before row k → RefusedAs r k (length before + 1)
   lowest_as (Ok l) (w, kept) k low = absurd (keeps_all l (only_line l w) kept k low)
   lowest_as (Err e) (p, q) k low = (e, refl, same_lowest (number e) k p low, q)
 
-  pub ruled_lowest : (k : ℕ) → Lowest room before row k → RefusedAt (ruled room before (scan row)) k (length before + 1)
+  pub ruled_lowest : (k : ℕ) → Lowest room before row k → RefusedAs (ruled room before (scan row)) k (length before + 1)
   ruled_lowest = lowest_as (ruled room before (scan row)) ruling

@@ -12,12 +12,13 @@ use Rattle.lines.specs.Grammar.{Written}
 use Rattle.lines.specs.Scan.{scan}
 use Rattle.lines.specs.declared.line.Line.{Line}
 use Rattle.text_rules.specs.Judging.{finished}
-use Rattle.text_rules.specs.Reading.{progress_of, ◌next◌, ruled, run, reading}
+use Rattle.text_rules.specs.Reading.{progress_of, ◌next◌, ruled, run, reading, RefusedAs}
 use Rattle.text_rules.specs.Rows.{Parted, rows}
 use Rattle.text_rules.specs.Stated.{Spells, Lawful, Roomy, Complete, Refused}
+use Rattle.text_rules.specs.declared.progress.Header.{Header}
 use Rattle.text_rules.specs.declared.progress.Room.{Room}
 use Rattle.text_rules.proofs.Parting.{rows_parted, parted_rows}
-use Rattle.text_rules.proofs.Ruling.{Keeps, Ruled, RefusedAt, ruling, ruled_keeps, ruled_lowest}
+use Rattle.text_rules.proofs.Ruling.{Keeps, Ruled, ruling, ruled_keeps, ruled_lowest}
 use Rattle.text_rules.proofs.Ending.{Ended, ending, ended_complete, ended_early}
 
 pub record Good (room : Room) (lines : List Line) (spelling : List (List ℕ)) : Type 0 where
@@ -47,7 +48,7 @@ good_more room before l done row g w k =
 
 module _ (text : List ℕ) (room : Room) (short : length text ≤ 65536) where
   ends_as : (lines : List Line) (done : List (List ℕ)) → Good room lines done → Parted done text
-      → (r : Result (ℕ × ℕ) Refusal) → Ended lines r → Read text room (r next λ sizes. Ok lines)
+      → (r : Result Header Refusal) → Ended lines r → Read text room (r next λ sizes. Ok lines)
   ends_as lines done g p (Ok sizes) c = record { short = short; rows = done; parted = p; good = g; complete = c }
   ends_as lines done g p (Err e) h =
       inr (inr record {
@@ -125,10 +126,10 @@ taken_reading text room lines t =
     reading_short text room t.rows t.short t.parted
     ∙ (runs_through room lines t.rows t.good ∙ ended_complete room lines t.complete)
 
-refused_next : {X Y : Type 0} (r : Result X Refusal) (f : X → Result Y Refusal) (k at : ℕ) → RefusedAt r k at → RefusedAt (r next f) k at
+refused_next : {X Y : Type 0} (r : Result X Refusal) (f : X → Result Y Refusal) (k at : ℕ) → RefusedAs r k at → RefusedAs (r next f) k at
 refused_next r f k at (e, is, n, p) = (e, ap (λ q. q next f) is, n, p)
 
-pub refused_reading : (text : List ℕ) (room : Room) (k at : ℕ) → Refused text room k at → RefusedAt (reading room text) k at
+pub refused_reading : (text : List ℕ) (room : Room) (k at : ℕ) → Refused text room k at → RefusedAs (reading room text) k at
 refused_reading text room k at (inl (h, n, p)) = (TextTooLong, rw (lt-leb _ _ h), sym n, sym p)
 refused_reading text room k at (inr (inl f)) =
     let g : Good room f.before f.earlier = record { spelled = f.spelled; lawful = f.lawful; roomy = f.roomy } in

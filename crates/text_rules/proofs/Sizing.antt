@@ -13,6 +13,7 @@ use Rattle.lines.specs.declared.line.Line.TheVariants.{Comment, Problem, Node, A
 use Rattle.text_rules.specs.Reading.{padded, answer_of, legs_after, stations_after, Accepted}
 use Rattle.text_rules.specs.Rules.{NODES, ARCS, arc_lines}
 use Rattle.text_rules.specs.Stated.{StatedNetwork, Lawful, Roomy, Complete, Fitting, leg_of, legs_of, station_of, stations_of, network_of}
+use Rattle.text_rules.specs.declared.progress.Header.{Header}
 use Rattle.text_rules.specs.declared.progress.Room.{Room}
 
 pub length_legs : (lines : List Line) → length (legs_of lines) ≡ arc_lines lines
@@ -27,17 +28,17 @@ pub length_stations : (lines : List Line) → length (stations_of lines) ≡ NOD
 length_stations lines = length-map-range_with_len (station_of lines) 0 (NODES lines)
 
 -- the tables suffice for what is announced
-abbrev Announced_fits : Room → List Line → Type 0
-Announced_fits room lines = (NODES lines ≤ room.stations) × (ARCS lines ≤ room.legs)
+abbrev AnnouncedFits : Room → List Line → Type 0
+AnnouncedFits room lines = (NODES lines ≤ room.stations) × (ARCS lines ≤ room.legs)
 
-announced_roomy : (room : Room) (lines : List Line) → Roomy room lines → Announced_fits room lines
+announced_roomy : (room : Room) (lines : List Line) → Roomy room lines → AnnouncedFits room lines
 announced_roomy room [] m = (omega arith, omega arith)
 announced_roomy room (Comment ∷ before) m = announced_roomy room before m.1
 announced_roomy room (Problem nodes arcs ∷ before) m = m.0
 announced_roomy room (Node id flow ∷ before) m = announced_roomy room before m.1
 announced_roomy room (Arc source target low capacity cost ∷ before) m = announced_roomy room before m.1
 
-roomy_announced : (room : Room) (lines : List Line) → Lawful lines → Announced_fits room lines → Roomy room lines
+roomy_announced : (room : Room) (lines : List Line) → Lawful lines → AnnouncedFits room lines → Roomy room lines
 roomy_announced room [] w f = tt
 roomy_announced room (Comment ∷ before) w f = (tt, roomy_announced room before w.3 f)
 roomy_announced room (Problem nodes arcs ∷ before) w f =
@@ -62,12 +63,15 @@ pub same_padded : {X : Type 0} (blank : X) (m n : ℕ) (xs ys : List X) → leng
 same_padded blank m n xs ys h e =
     sym (take_at xs _ (length xs) refl) ∙ (ap (take (length xs)) e ∙ take_at ys _ (length xs) (sym h))
 
+abbrev sizes_of : ℕ → ℕ → Header
+sizes_of nodes arcs = record { nodes = nodes; arcs = arcs }
+
 module _ (room : Room) (lines : List Line) where
   pub network_accepted : Fitting room (network_of lines)
       → Accepted (answer_of (Ok lines)) (legs_after (Ok lines) room.legs) (stations_after (Ok lines) room.stations) (network_of lines)
   network_accepted f =
       record {
-        sizes = ap (λ n. Ok (n, length (legs_of lines))) (sym (length_stations lines));
+        sizes = ap (λ n. Ok (sizes_of n (length (legs_of lines)))) (sym (length_stations lines));
         legs_are = ap (λ n. padded cleared_leg n (legs_of lines)) (sym (length_padded _ _ _ f.1));
         stations_are = ap (λ n. padded cleared_station n (stations_of lines)) (sym (length_padded _ _ _ f.0));
       }
@@ -75,9 +79,9 @@ module _ (room : Room) (lines : List Line) where
   pub accepted_network : (net : StatedNetwork)
       → Accepted (answer_of (Ok lines)) (legs_after (Ok lines) room.legs) (stations_after (Ok lines) room.stations) net → net ≡ network_of lines
   accepted_network net a =
-      let e : ◌≡◌ {A = ℕ × ℕ} (NODES lines, length (legs_of lines)) (length net.stations, length net.legs) = cc a.sizes in
-      let n = length_stations lines ∙ ap (λ p. p.0) e in
-      let m = ap (λ p. p.1) e in
+      let e : sizes_of (NODES lines) (length (legs_of lines)) ≡ sizes_of (length net.stations) (length net.legs) = cc a.sizes in
+      let n = length_stations lines ∙ ap (λ (h : Header). h.nodes) e in
+      let m = ap (λ (h : Header). h.arcs) e in
       let s = same_padded cleared_station _ _ (stations_of lines) net.stations n a.stations_are in
       let l = same_padded cleared_leg _ _ (legs_of lines) net.legs m a.legs_are in
       sym (rw (s, l))

@@ -1,26 +1,18 @@
 -- How a line is judged, by what the lines before it settled.
 --   in_order, in_range, has_room, in_count   the four tests of a line that has a form, in checking order
+--   is_node    a number that names a node
 --   advanced   what is settled once a line is taken
 --   judged     what is settled once the line is taken, or the refusal of the lowest number
---   finished   the numbers of nodes and arcs, once every line is taken
+--   finished   what the problem line announced, once every line is taken, by `finished_by`
 use Rattle.std.specs.Prelude.{ℕ, ◌+◌, Bool, true, cond, not, ◌&&◌, pos, negsuc, is_some, Some, None, Ok, Err, Option, Result, ◌==◌, int_le, nat_le, nat_lt}
 use Rattle.records.specs.declared.refusal.Refusal.{Refusal}
 use Rattle.records.specs.declared.refusal.Refusal.TheVariants.{LineOutOfOrder, FieldOutOfRange, TablesTooShort, ArcsMiscounted}
 use Rattle.lines.specs.declared.line.Line.{Line}
 use Rattle.lines.specs.declared.line.Line.TheVariants.{Comment, Problem, Node, Arc}
+use Rattle.text_rules.specs.Rules.{nodes_of, arcs_of}
 use Rattle.text_rules.specs.declared.progress.Header.{Header}
 use Rattle.text_rules.specs.declared.progress.Progress.{Progress}
 use Rattle.text_rules.specs.declared.progress.Room.{Room}
-
--- the number of nodes announced, 0 before it is
-abbrev pub nodes_in : Option Header → ℕ
-nodes_in None = 0
-nodes_in (Some h) = h.nodes
-
--- the number of arcs announced, 0 before it is
-abbrev pub arcs_in : Option Header → ℕ
-arcs_in None = 0
-arcs_in (Some h) = h.arcs
 
 -- one problem line, node and arc lines behind it, and no node line behind an arc line
 abbrev pub in_order : Progress → Line → Bool
@@ -31,7 +23,7 @@ in_order p (Arc source target low capacity cost) = is_some p.header
 
 -- a node's number lies from 1 to the number of nodes
 abbrev pub is_node : Progress → ℕ → Bool
-is_node p id = nat_le 1 id && nat_le id (nodes_in p.header)
+is_node p id = nat_le 1 id && nat_le id (nodes_of p.header)
 
 abbrev pub in_range : Progress → Line → Bool
 in_range p Comment = true
@@ -50,7 +42,7 @@ abbrev pub in_count : Progress → Line → Bool
 in_count p Comment = true
 in_count p (Problem nodes arcs) = true
 in_count p (Node id flow) = true
-in_count p (Arc source target low capacity cost) = nat_lt p.arcs (arcs_in p.header)
+in_count p (Arc source target low capacity cost) = nat_lt p.arcs (arcs_of p.header)
 
 abbrev pub advanced : Progress → Line → Progress
 advanced p Comment = p
@@ -70,9 +62,9 @@ judged room p number l =
     (Err (LineOutOfOrder number))
 
 -- the arcs announced have come; of so many lines, counted as the last line's number
-abbrev pub finishedBy : Option Header → ℕ → ℕ → Result (ℕ × ℕ) Refusal
-finishedBy None arcs number = Err (ArcsMiscounted number)
-finishedBy (Some h) arcs number = cond (arcs == h.arcs) (Ok (h.nodes, h.arcs)) (Err (ArcsMiscounted number))
+abbrev pub finished_by : Option Header → ℕ → ℕ → Result Header Refusal
+finished_by None arcs number = Err (ArcsMiscounted number)
+finished_by (Some h) arcs number = cond (arcs == h.arcs) (Ok h) (Err (ArcsMiscounted number))
 
-abbrev pub finished : Progress → ℕ → Result (ℕ × ℕ) Refusal
-finished p number = finishedBy p.header p.arcs number
+abbrev pub finished : Progress → ℕ → Result Header Refusal
+finished p number = finished_by p.header p.arcs number

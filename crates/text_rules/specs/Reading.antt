@@ -1,9 +1,11 @@
 -- What reading a text comes to.
 --   progress_of   what some lines, newest first, settled
---   run           the rows read on behind some lines
+--   ◌next◌        an answer, and then what is made of it
+--   ruled, run    a row, and all rows, read on behind some lines
 --   reading       the lines of a text, newest first, or its refusal
 --   padded        a table that holds a list and is cleared beyond
 --   answer_of, legs_after, stations_after   what a call answers and leaves in the tables
+--   ◌iff◌         one holds exactly where the other does
 --   Accepted, RefusedAs   an answer that accepts a network, and one that refuses with a number and a place
 --   Exactly       when a call accepts a text, and when and how it refuses one
 use Rattle.std.specs.Prelude.{◌≡◌, ℕ, ◌+◌, ◌-◌, cond, ◌⊎◌, List, [], ◌∷◌, ◌++◌, length, replicate, Some, None, Ok, Err, Option, Result, nat_le}
@@ -19,6 +21,7 @@ use Rattle.text_rules.specs.Judging.{judged, advanced, finished}
 use Rattle.text_rules.specs.Rows.{rows}
 use Rattle.text_rules.specs.Rules.{NODES}
 use Rattle.text_rules.specs.Stated.{StatedNetwork, States, Fitting, Refused, legs_of, stations_of}
+use Rattle.text_rules.specs.declared.progress.Header.{Header}
 use Rattle.text_rules.specs.declared.progress.Progress.{Progress}
 use Rattle.text_rules.specs.declared.progress.Room.{Room}
 
@@ -47,8 +50,8 @@ reading room text = cond (nat_le (length text) 65536) (run room [] (rows text)) 
 abbrev pub padded : {X : Type 0} → X → ℕ → List X → List X
 padded blank n xs = xs ++ replicate (n - length xs) blank
 
-abbrev pub answer_of : Result (List Line) Refusal → Result (ℕ × ℕ) Refusal
-answer_of (Ok lines) = Ok (NODES lines, length (legs_of lines))
+abbrev pub answer_of : Result (List Line) Refusal → Result Header Refusal
+answer_of (Ok lines) = Ok (record { nodes = NODES lines; arcs = length (legs_of lines) })
 answer_of (Err e) = Err e
 
 abbrev pub legs_after : Result (List Line) Refusal → ℕ → List Leg
@@ -63,18 +66,18 @@ abbrev pub ◌iff◌ : Type 0 → Type 0 → Type 0
 ◌iff◌ P Q = (P → Q) × (Q → P)
 
 -- the answer and the tables after the call are those of a network
-pub record Accepted (r : Result (ℕ × ℕ) Refusal) (legs : List Leg) (stations : List Station) (net : StatedNetwork) : Type 0 where
-  pub sizes : r ≡ Ok (length net.stations, length net.legs)
+pub record Accepted (r : Result Header Refusal) (legs : List Leg) (stations : List Station) (net : StatedNetwork) : Type 0 where
+  pub sizes : r ≡ Ok (record { nodes = length net.stations; arcs = length net.legs })
   pub legs_are : legs ≡ padded cleared_leg (length legs) net.legs
   pub stations_are : stations ≡ padded cleared_station (length stations) net.stations
 
 -- the answer is a refusal of that number and place
-abbrev pub RefusedAs : Result (ℕ × ℕ) Refusal → ℕ → ℕ → Type 0
+abbrev pub RefusedAs : {X : Type 0} → Result X Refusal → ℕ → ℕ → Type 0
 RefusedAs r k at = (e : Refusal) × (r ≡ Err e) × (number e ≡ k) × (place e ≡ at)
 
 -- a text is accepted as a network exactly when it states it and the tables are long enough,
 -- and refused with a number and a place exactly when the rules say so; every text is one or the other
-pub record Exactly (text : List ℕ) (room : Room) (r : Result (ℕ × ℕ) Refusal) (legs : List Leg) (stations : List Station) : Type 0 where
+pub record Exactly (text : List ℕ) (room : Room) (r : Result Header Refusal) (legs : List Leg) (stations : List Station) : Type 0 where
   pub accepted_when_stated : (net : StatedNetwork) → ◌iff◌ (States text net × Fitting room net) (Accepted r legs stations net)
   pub refused_when_broken : (k at : ℕ) → ◌iff◌ (Refused text room k at) (RefusedAs r k at)
   pub one_or_the_other : ((net : StatedNetwork) × States text net × Fitting room net) ⊎ ((k : ℕ) × (at : ℕ) × Refused text room k at)

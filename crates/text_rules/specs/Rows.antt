@@ -3,7 +3,7 @@
 --   Parted      rows, and the text that they make up
 --   first_row   the bytes before the first line end, or all of them
 --   behind      the bytes behind the first line end
---   rows        the rows of a text
+--   rows        the rows of a text, by `onto`
 use Rattle.std.specs.Prelude.{◌≡◌, ℕ, ◌≤◌, cond, ◌⊎◌, List, [], ◌∷◌, ◌++◌, length, ◌==◌, ◌≢◌}
 
 abbrev pub NoEnd : List ℕ → Type 0

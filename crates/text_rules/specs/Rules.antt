@@ -1,36 +1,41 @@
 -- The rules that the lines of a text keep, as the format's description gives them. A list of lines has the
 -- newest first: each line is judged by the lines before it.
---   problem_in, NODES, ARCS   what the problem line among some lines announced
+--   problem_in, NODES, ARCS   what the problem line among some lines announced, by `nodes_of` and `arcs_of`
+--   Announced                 a problem line is among some lines
 --   arc_lines                 how many of the lines are arc lines
+--   IsNode                    a number that names a node
 --   InOrder, InRange, InCount what a line keeps, by the lines before it
 --   HasRoom                   the handed tables suffice for what a line announces
 --   Rule, rule_number         the rules, and the number of the refusal when one is broken
+--   SpellsBut                 a row that spells a line for which something does not hold
 --   Breaks                    a row that breaks a rule, by the lines before it
 --   Lowest                    the lowest rule that a row breaks
 use Rattle.std.specs.Prelude.{◌≡◌, ℕ, ◌+◌, ◌<◌, ◌≤◌, true, List, [], ◌∷◌, pos, negsuc, ◌≤ℤ◌, is_some, Some, None, Option, ◌≢◌}
 use Rattle.lines.specs.Grammar.{Written}
 use Rattle.lines.specs.declared.line.Line.{Line}
 use Rattle.lines.specs.declared.line.Line.TheVariants.{Comment, Problem, Node, Arc}
+use Rattle.text_rules.specs.declared.progress.Header.{Header}
 use Rattle.text_rules.specs.declared.progress.Room.{Room}
 
--- the numbers of nodes and arcs that the problem line announced, if it is there
-abbrev pub problem_in : List Line → Option (ℕ × ℕ)
+-- what the problem line announced, if it is there
+abbrev pub problem_in : List Line → Option Header
 problem_in [] = None
 problem_in (Comment ∷ before) = problem_in before
-problem_in (Problem nodes arcs ∷ before) = Some (nodes, arcs)
+problem_in (Problem nodes arcs ∷ before) = Some (record { nodes = nodes; arcs = arcs })
 problem_in (Node id flow ∷ before) = problem_in before
 problem_in (Arc source target low capacity cost ∷ before) = problem_in before
 
 abbrev pub Announced : List Line → Type 0
 Announced lines = is_some (problem_in lines) ≡ true
 
-abbrev pub nodes_of : Option (ℕ × ℕ) → ℕ
+-- 0 before they are announced
+abbrev pub nodes_of : Option Header → ℕ
 nodes_of None = 0
-nodes_of (Some p) = p.0
+nodes_of (Some h) = h.nodes
 
-abbrev pub arcs_of : Option (ℕ × ℕ) → ℕ
+abbrev pub arcs_of : Option Header → ℕ
 arcs_of None = 0
-arcs_of (Some p) = p.1
+arcs_of (Some h) = h.arcs
 
 abbrev pub NODES : List Line → ℕ
 NODES lines = nodes_of (problem_in lines)
@@ -90,15 +95,15 @@ rule_number tables = 5
 rule_number count = 6
 
 -- the row spells a line for which something does not hold
-abbrev pub Spells_but : List ℕ → (Line → Type 0) → Type 0
-Spells_but row P = (l : Line) × Written l row × (P l → ⊥)
+abbrev pub SpellsBut : List ℕ → (Line → Type 0) → Type 0
+SpellsBut row P = (l : Line) × Written l row × (P l → ⊥)
 
 abbrev pub Breaks : Room → List Line → List ℕ → Rule → Type 0
 Breaks room before row form = (l : Line) → Written l row → ⊥
-Breaks room before row order = Spells_but row (InOrder before)
-Breaks room before row range = Spells_but row (InRange before)
-Breaks room before row tables = Spells_but row (HasRoom room)
-Breaks room before row count = Spells_but row (InCount before)
+Breaks room before row order = SpellsBut row (InOrder before)
+Breaks room before row range = SpellsBut row (InRange before)
+Breaks room before row tables = SpellsBut row (HasRoom room)
+Breaks room before row count = SpellsBut row (InCount before)
 
 pub record Lowest (room : Room) (before : List Line) (row : List ℕ) (k : ℕ) : Type 0 where
   pub rule : Rule

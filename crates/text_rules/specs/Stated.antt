@@ -1,7 +1,9 @@
 -- What a text states, and when and where it is refused.
---   StatedNetwork            stations and legs
---   legs_of            the legs that arc lines state, in the order of their lines
+--   StatedNetwork      stations and legs
+--   leg_of, legs_of    the leg that an arc line states, and those of all, in the order of their lines
 --   balance_of         what the last node line for a station says, 0 without one
+--   as_station         the station that has a balance
+--   station_of, stations_of   the station of a number, and all
 --   network_of         the network that the lines of a text make up
 --   Spells             lines, newest first, and the rows that spell them, in the order of the text
 --   Lawful             every line keeps order, ranges and count, by the lines before it
@@ -46,8 +48,12 @@ balance_of (Problem nodes arcs ∷ before) station = balance_of before station
 balance_of (Node id flow ∷ before) station = cond (id == station + 1) flow (balance_of before station)
 balance_of (Arc source target low capacity cost ∷ before) station = balance_of before station
 
+-- a station that has nothing but a balance
+abbrev pub as_station : ℤ → Station
+as_station z = record { balance = z }
+
 abbrev pub station_of : List Line → ℕ → Station
-station_of lines k = record { balance = balance_of lines k }
+station_of lines k = as_station (balance_of lines k)
 
 abbrev pub stations_of : List Line → List Station
 stations_of lines = map (station_of lines) (range_with_len 0 (NODES lines))

@@ -1,19 +1,22 @@
-// Judging one line by what the lines before it settled.
+// Judging one line by what the lines before it settled. Casts from u32: `Line` says why.
 ghost use Rattle.std.specs.Prelude.{◌≡◌, ℕ, ◌+◌, ◌^◌, ◌<◌, ◌≤◌, true};
 ghost use Rattle.text_rules.specs.Judging.{in_order, is_node, in_range, has_room, in_count, judged, advanced, finished};
 
 use crate::progress::{Header, Progress, Room};
 use lines::Line;
-use records::Refusal;
+use records::{MOST_CAPACITY, MOST_CHARGE, MOST_LEGS, MOST_REPORTED, MOST_STATIONS, Refusal};
 
-// Whether the tables have room for what the line announces.
-fn has_room(room: Room, line: Line) -> bool
-    ensures { result ≡ has_room room line }
-{
-    match line {
-        Line::Problem { nodes, arcs } => nodes as usize <= room.stations
-            && arcs as usize <= room.legs,
-        _ => true,
+impl Room {
+    // Whether the tables have room for what the line announces.
+    fn suffices(&self, line: Line) -> bool
+        ensures { result ≡ has_room self.now line }
+    {
+        match line {
+            Line::Problem { nodes, arcs } => {
+                nodes as usize <= self.stations && arcs as usize <= self.legs
+            }
+            _ => true,
+        }
     }
 }
 
@@ -44,8 +47,12 @@ impl Progress {
     {
         match line {
             Line::Comment => true,
-            Line::Problem { nodes, arcs } => (1..=240).contains(&nodes) && arcs <= 3000,
-            Line::Node { id, flow } => self.is_node(id) && (-500..=500).contains(&flow),
+            Line::Problem { nodes, arcs } => {
+                (1..=MOST_STATIONS).contains(&(nodes as usize)) && arcs as usize <= MOST_LEGS
+            }
+            Line::Node { id, flow } => {
+                self.is_node(id) && (-MOST_REPORTED..=MOST_REPORTED).contains(&flow)
+            },
             Line::Arc {
                 source,
                 target,
@@ -57,8 +64,8 @@ impl Progress {
                     && self.is_node(target)
                     && source != target
                     && low == 0
-                    && capacity <= 500
-                    && cost <= 10000
+                    && capacity <= u32::from(MOST_CAPACITY)
+                    && cost <= MOST_CHARGE
             }
         }
     }
@@ -67,9 +74,8 @@ impl Progress {
     fn in_count(&self, line: Line) -> bool
         ensures { result ≡ in_count self.now line }
     {
-        match (line, self.header) {
-            (Line::Arc { .. }, Some(h)) => self.arcs < h.arcs,
-            (Line::Arc { .. }, None) => false,
+        match line {
+            Line::Arc { .. } => self.header.is_some_and(|h| self.arcs < h.arcs),
             _ => true,
         }
     }
@@ -80,16 +86,13 @@ impl Progress {
         ensures { result ≡ advanced self.now line }
     {
         match (line, self.header) {
-            (Line::Problem { nodes, arcs }, _) => {
-                let header = Header {
+            (Line::Problem { nodes, arcs }, _) => Progress {
+                header: Some(Header {
                     nodes: nodes as usize,
                     arcs: arcs as usize,
-                };
-                Progress {
-                    header: Some(header),
-                    arcs: self.arcs,
-                }
-            }
+                }),
+                ..*self
+            },
             (Line::Arc { .. }, Some(h)) => Progress {
                 header: Some(h),
                 arcs: self.arcs + 1,
@@ -108,7 +111,7 @@ impl Progress {
         if !self.in_range(line) {
             return Err(Refusal::FieldOutOfRange { line: number });
         }
-        if !has_room(room, line) {
+        if !room.suffices(line) {
             return Err(Refusal::TablesTooShort { line: number });
         }
         if !self.in_count(line) {
@@ -117,13 +120,12 @@ impl Progress {
         Ok(self.advanced(line))
     }
 
-    // The numbers of nodes and arcs once every line is taken; the last has the number given.
-    pub fn finish(&self, number: usize) -> Result<(usize, usize), Refusal>
+    // What the problem line announced, once every line is taken; the last has the number given.
+    pub fn finish(&self, number: usize) -> Result<Header, Refusal>
         ensures { result ≡ finished self.now number }
     {
-        match self.header {
-            Some(h) if self.arcs == h.arcs => Ok((h.nodes, h.arcs)),
-            _ => Err(Refusal::ArcsMiscounted { line: number }),
-        }
+        self.header
+            .filter(|h| self.arcs == h.arcs)
+            .ok_or(Refusal::ArcsMiscounted { line: number })
     }
 }

@@ -9,8 +9,9 @@ ghost use Rattle.text_table.specs.Stands.{Stands, Falls};
 use reader::read;
 use records::{Leg, Refusal, Station};
 use table::Table;
+use text_rules::Header;
 
-// Reads a text into lent records, and makes a table on the first NODES and ARCS of them.
+// Reads a text into lent records, and makes a table on the first NODES and ARCS of them. Two slices: a caller has the records so.
 pub fn read_table<'a>(
     text: &[u8],
     legs: &'a mut [Leg],
@@ -18,9 +19,9 @@ pub fn read_table<'a>(
 ) -> Result<Table<'a>, Refusal>
     ensures { MatchResult result (λ t. Stands text.now (room_of legs.old stations.old) (table_of t.legs.now t.stations.now)) (λ e. Falls text.now (room_of legs.old stations.old) e) }
 {
-    let (nodes, arcs) = read(text, legs, stations)?;
+    let Header { nodes, arcs } = read(text, legs, stations)?;
     Ok(Table {
-        legs: &mut legs[0..arcs],
-        stations: &mut stations[0..nodes],
+        legs: &mut legs[..arcs],
+        stations: &mut stations[..nodes],
     })
 }

@@ -10,6 +10,7 @@ use std::io;
 use text_program::{TextAnswer, answer_input};
 
 // The canonical text of the network that a text states, or its refusal.
+// A struct for this program, and no impl for every `NetworkAnswer`: so it prints what `answer_text` promises, in the same word.
 struct Vanplan;
 
 impl TextAnswer for Vanplan {

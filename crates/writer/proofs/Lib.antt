@@ -1,4 +1,3 @@
-pub mod Adding
 pub mod Spelling
 pub mod Naming
 pub mod Stating

@@ -34,7 +34,7 @@ pub record Reached (n m : ℕ) (before : List Line) (rows : List (List ℕ)) : T
   pub spelled : Spells before rows
   pub no_ends : AllByRecursion NoEnd rows
   pub lawful : Lawful before
-  pub problem : problem_in before ≡ Some (n, m)
+  pub problem : problem_in before ≡ Some (record { nodes = n; arcs = m })
 
 -- one line more that keeps the rules
 module _ (n m : ℕ) (before : List Line) (rows : List (List ℕ)) (r : Reached n m before rows) where

@@ -11,7 +11,7 @@ use Rattle.std.proofs.lemmas.Str.Parse.{IsNumeralModel, numerals_by_fold}
 use Rattle.std.proofs.lemmas.Int.{ints}
 use Rattle.std.proofs.lemmas.Bool.Decides.{nat_tests}
 use Rattle.records.specs.declared.leg.Leg.{Leg}
-use Rattle.lines.specs.Grammar.{Digits, worth, worthFrom, Numeral, Signed, Written}
+use Rattle.lines.specs.Grammar.{Digits, worth, worth_from, Numeral, Signed, Written}
 use Rattle.lines.specs.declared.line.Line.{Line}
 use Rattle.lines.specs.declared.line.Line.TheVariants.{Problem, Node, Arc}
 use Rattle.text_rules.specs.Rows.{NoEnd, Parted}
@@ -19,7 +19,7 @@ use Rattle.writer.specs.Canonical.{problem_line, node_line, arc_line, ended}
 use Rattle.text_rules.specs.Legal.{LegLawful, Bounded}
 
 own : IsNumeralModel Digits worth
-own = numerals_by_fold Digits (search rules) worthFrom (search rules)
+own = numerals_by_fold Digits (search rules) worth_from (search rules)
 
 pub numeral : (n : ℕ) → n ≤ 10000 → Numeral (decimal n) n
 numeral n h =

@@ -9,7 +9,7 @@ use Rattle.records.specs.declared.station.Station.{Station}
 use Rattle.lines.specs.declared.line.Line.{Line}
 use Rattle.lines.specs.declared.line.Line.TheVariants.{Problem}
 use Rattle.text_rules.specs.Rules.{nodes_of, arcs_of, arc_lines}
-use Rattle.text_rules.specs.Stated.{States, leg_of, legs_of, balance_of, stations_of}
+use Rattle.text_rules.specs.Stated.{States, leg_of, legs_of, balance_of, as_station, stations_of}
 use Rattle.writer.specs.Canonical.{problem_line, canonical_lines, canonical, ReadBack}
 use Rattle.text_rules.specs.Legal.{LegLawful, Legal}
 use Rattle.text_rules.proofs.Legal.{legal}
@@ -72,9 +72,6 @@ balance_below k [] before j h = refl
 balance_below k (s ∷ rest) before j h =
     balance_below (k + 1) rest (node_onto (k + 1) s.balance before) j (omega arith)
     ∙ balance_other (k + 1) s.balance before j (λ e. omega (arith, e))
-
-abbrev as_station : ℤ → Station
-as_station z = record { balance = z }
 
 -- the stations from k on, by any list of their balances, where no line before spoke of them
 stations_back : (k : ℕ) (stations : List Station) (before : List Line) (g : ℕ → ℤ)

@@ -1,19 +1,23 @@
 -- The canonical text of a network, and the law that it can be read back.
+--   Appends          what a function answers that writes bytes behind a string, where there is memory for them
 --   problem_line     the line that announces the numbers of nodes and arcs
 --   node_line        the line of a station
 --   arc_line         the line of a leg
---   node_lines       the lines of the stations whose balance is not 0
+--   node_lines       the lines of the stations whose balance is not 0, by `with_node`
 --   canonical_lines  all lines, in the order of the text
 --   ended            a line with the byte that ends it
 --   canonical        the bytes of the whole text
 --   ReadBack         the canonical text of a legal network states it
-use Rattle.std.specs.Prelude.{ℕ, zero, suc, ◌+◌, ◌≤◌, List, [], ◌∷◌, ◌++◌, map, length, ℤ, pos, negsuc, codes, decimal}
+use Rattle.std.specs.Prelude.{ℕ, zero, suc, ◌+◌, ◌≤◌, List, [], ◌∷◌, ◌++◌, map, length, ℤ, pos, negsuc, codes, decimal, ◌≡◌, Result, OnOk, String, string_bytes}
 use Rattle.std.specs.List.{flat_map}
 use Rattle.std.specs.Fmt.{signed_decimal}
 use Rattle.records.specs.declared.leg.Leg.{Leg}
 use Rattle.records.specs.declared.station.Station.{Station}
 use Rattle.text_rules.specs.Legal.{Legal}
 use Rattle.text_rules.specs.Stated.{States}
+
+abbrev pub Appends : {X E Z : Type 0} → Result X E → String Z → String Z → List ℕ → Type 0
+Appends result before after bytes = OnOk result (string_bytes after ≡ string_bytes before ++ bytes)
 
 -- `p min NODES ARCS`
 abbrev pub problem_line : ℕ → ℕ → List ℕ

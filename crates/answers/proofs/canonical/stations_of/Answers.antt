@@ -2,7 +2,7 @@ use Rattle.std.proofs.Common.{length, rules, arith}
 use Rattle.std.specs.List.{slice_get}
 use Rattle.std.proofs.lemmas.Iterator.{items_from_collect, YieldsList-from_range, YieldsList-from_map}
 use Rattle.std.proofs.lemmas.Iterator.Consumers.{YieldsList-from_filter_map, YieldsList-at}
-use Rattle.answers.specs.Printed.{as_station}
+use Rattle.text_rules.specs.Stated.{as_station}
 use Rattle.answers.proofs.Gathering.{gathered}
 use Rattle.answers.proofs.canonical.stations_of.Goals as goal
 
