@@ -6,12 +6,11 @@ use Rattle.std.proofs.lemmas.List.{take_all}
 use Rattle.std.proofs.lemmas.List.Sums.{fold_more}
 use Rattle.std.proofs.lemmas.Bool.{true≢false}
 use Rattle.network.specs.Nets.{Net}
-use Rattle.theory.specs.Arcs.{Arc, gather, outward, owed, AllFull}
-use Rattle.theory.proofs.Cuts as Crossing
-use Rattle.plans.specs.Plans.{stations, amount, balance_at, bikes_out, bikes_in, Fits, Obeys, EndsBelow}
+use Rattle.theory.specs.Arcs.{Arc, outward, owed, AllFull}
+use Rattle.plans.specs.Plans.{stations, balance_at, Fits, Obeys, EndsBelow}
 use Rattle.plans.specs.Cuts.{left_over}
-use Rattle.plans.proofs.Sums.{owed_same}
-use Rattle.plans.proofs.Arcing.{arcs_of, each, gathered_out, gathered_in, fits}
+use Rattle.plans.proofs.Cutting.{sent, all_sent}
+use Rattle.plans.proofs.Arcing.{arcs_of}
 use Rattle.certificates.specs.Totals.{total_below}
 
 pub obeys : (net : Net) (plan : List ℕ) → Fits net plan → ((v : ℕ) → v < stations net → left_over net plan v ≡ pos 0) → Obeys net plan
@@ -31,18 +30,8 @@ never_out [] xs = tt
 never_out (l ∷ ls) [] = tt
 never_out (l ∷ ls) (x ∷ xs) = (record { more = λ p q. absurd (true≢false q); less = λ p q. absurd (true≢false q) }, never_out ls xs)
 
-abbrev sent : Net → List ℕ → ℕ → ℤ
-sent net plan v = pos (bikes_out net plan v) -ℤ pos (bikes_in net plan v)
-
 none_sent : (net : Net) (plan : List ℕ) → EndsBelow net → Fits net plan → total_below (stations net) (sent net plan) ≡ pos 0
-none_sent net plan e f =
-    let n = stations net in
-    let ls = arcs_of net [] in
-    let g : ℕ → ℤ = λ v. pos (gather (λ a. a.from) v ls plan) -ℤ pos (gather (λ a. a.to) v ls plan) in
-    sym (all_owed n (sent net plan))
-    ∙ owed_same n (λ v. true) (sent net plan) g (λ v _. omega (arith, ints, gathered_out net [] plan v f.one_each, gathered_in net [] plan v f.one_each))
-    ∙ Crossing.sends n (λ v. true) ls plan (each (λ a. a.from < n) net.legs (amount []) (λ k h. (e k h).0)) (each (λ a. a.to < n) net.legs (amount []) (λ k h. (e k h).1)) (fits net [] plan f) (never_out ls plan)
-    ∙ ap pos (none_outward ls)
+none_sent net plan e f = sym (all_owed (stations net) (sent net plan)) ∙ all_sent net plan (λ v. true) e f (never_out (arcs_of net []) plan) ∙ ap pos (none_outward (arcs_of net []))
 
 -- ---- sums over the numbers below n
 total_parts : (n : ℕ) (b c : ℕ → ℤ) → total_below n (λ v. b v -ℤ c v) ≡ total_below n b -ℤ total_below n c

@@ -9,10 +9,13 @@ use Rattle.network.specs.Nets.{Net}
 use Rattle.theory.specs.Arcs.{Arc, gather}
 use Rattle.theory.specs.Trails.{here}
 use Rattle.theory.proofs.Pushing.{gather_set}
+use Rattle.plans.specs.declared.direction.Direction.{Direction}
+use Rattle.plans.specs.declared.direction.Direction.TheVariants.{Forth, Back}
+use Rattle.plans.specs.Residuals.{tail, head, residual}
 use Rattle.plans.specs.Plans.{sum_below, stations, leg_at, amount, in_force, bikes_out, bikes_in, Fits}
 use Rattle.plans.specs.Cuts.{left_over}
 use Rattle.plans.proofs.Arcing.{arc, arcs_of, no_arc, arcs_length, arcs_at, gathered_out, gathered_in}
-use Rattle.certificates.specs.Pushes.{more, fewer, Sent}
+use Rattle.certificates.specs.Pushes.{shifted, Sent}
 use Rattle.certificates.specs.Totals.{over, all_over}
 
 -- ---- the same plan with the amount y on the leg k
@@ -69,18 +72,16 @@ at_end_fewer : (t : Bool) (x b o o' : ℕ) → b ≤ x → o' + cond t x 0 ≡ o
 at_end_fewer true x b o o' h e = omega arith
 at_end_fewer false x b o o' h e = omega arith
 
-pub forth_sent : (net : Net) (plan : List ℕ) (k b : ℕ) → Fits net plan → k < length net.legs → amount plan k + b ≤ in_force (leg_at net k) → Sent net plan (more plan k b) b (leg_at net k).start (leg_at net k).end
-forth_sent net plan k b f l h =
-    by_ends net plan (more plan k b) b (leg_at net k).start (leg_at net k).end (fits_set net plan k (amount plan k + b) f h)
-    (λ w. let o = at_end_more (eqb (leg_at net k).start w) (amount plan k) b (bikes_out net plan w) (bikes_out net (more plan k b) w) (out_set net plan k (amount plan k + b) f l w) in
-    let i = at_end_more (eqb (leg_at net k).end w) (amount plan k) b (bikes_in net plan w) (bikes_in net (more plan k b) w) (in_set net plan k (amount plan k + b) f l w) in
+pub sent_along : (d : Direction) (net : Net) (plan : List ℕ) (k b : ℕ) → Fits net plan → k < length net.legs → b ≤ residual d (leg_at net k) (amount plan k) → Sent net plan (shifted d plan k b) b (tail d (leg_at net k)) (head d (leg_at net k))
+sent_along Forth net plan k b f l h =
+    by_ends net plan (shifted Forth plan k b) b (leg_at net k).start (leg_at net k).end (fits_set net plan k (amount plan k + b) f (omega (arith, f.within k l)))
+    (λ w. let o = at_end_more (eqb (leg_at net k).start w) (amount plan k) b (bikes_out net plan w) (bikes_out net (shifted Forth plan k b) w) (out_set net plan k (amount plan k + b) f l w) in
+    let i = at_end_more (eqb (leg_at net k).end w) (amount plan k) b (bikes_in net plan w) (bikes_in net (shifted Forth plan k b) w) (in_set net plan k (amount plan k + b) f l w) in
     omega (arith, ints))
-
-pub back_sent : (net : Net) (plan : List ℕ) (k b : ℕ) → Fits net plan → k < length net.legs → b ≤ amount plan k → Sent net plan (fewer plan k b) b (leg_at net k).end (leg_at net k).start
-back_sent net plan k b f l h =
-    by_ends net plan (fewer plan k b) b (leg_at net k).end (leg_at net k).start (fits_set net plan k (amount plan k - b) f (omega (arith, f.within k l)))
-    (λ w. let o = at_end_fewer (eqb (leg_at net k).start w) (amount plan k) b (bikes_out net plan w) (bikes_out net (fewer plan k b) w) h (out_set net plan k (amount plan k - b) f l w) in
-    let i = at_end_fewer (eqb (leg_at net k).end w) (amount plan k) b (bikes_in net plan w) (bikes_in net (fewer plan k b) w) h (in_set net plan k (amount plan k - b) f l w) in
+sent_along Back net plan k b f l h =
+    by_ends net plan (shifted Back plan k b) b (leg_at net k).end (leg_at net k).start (fits_set net plan k (amount plan k - b) f (omega (arith, f.within k l)))
+    (λ w. let o = at_end_fewer (eqb (leg_at net k).start w) (amount plan k) b (bikes_out net plan w) (bikes_out net (shifted Back plan k b) w) h (out_set net plan k (amount plan k - b) f l w) in
+    let i = at_end_fewer (eqb (leg_at net k).end w) (amount plan k) b (bikes_in net plan w) (bikes_in net (shifted Back plan k b) w) h (in_set net plan k (amount plan k - b) f l w) in
     omega (arith, ints))
 
 -- ---- one push after another

@@ -1,43 +1,45 @@
 -- One leg takes more bikes or fewer, as a planner sends them along a residual step.
---   more        the plan with b bikes more on a leg
---   fewer       the plan with b bikes less on a leg
---   SendsForth  b bikes may go along the forward step of a leg, at what the step costs now
---   SendsBack   the same along the backward step
---   room_forth  how many bikes may go along the forward step
---   room_back   how many bikes may go along the backward step
+--   carried     what a leg carries after b bikes went along a step over it
+--   shifted     the plan after b bikes went along a step
+--   Takes       b bikes may go along a step, at what the step costs now
+--   SendsAlong  the same of a leg that is there, in a plan
+--   room        how many bikes may go along a step
+--   room_over   the same by the leg's number
 --   Sent        what a plan is after b bikes went from one station to another
 use Rattle.std.specs.Prelude.{◌≡◌, ℕ, ◌+◌, ◌-◌, ◌<◌, ◌≤◌, min, cond, List, length, pos, ◌+ℤ◌, ◌-ℤ◌, ◌≢◌, nat_lt, slice_set}
 use Rattle.network.specs.Nets.{Net}
 use Rattle.theory.specs.Trails.{here}
+use Rattle.plans.specs.declared.direction.Direction.{Direction}
+use Rattle.plans.specs.declared.direction.Direction.TheVariants.{Forth, Back}
 use Rattle.plans.specs.Plans.{leg_at, amount, in_force, Fits}
 use Rattle.plans.specs.Residuals.{Joined}
 use Rattle.plans.specs.Cuts.{left_over}
 
-abbrev pub more : List ℕ → ℕ → ℕ → List ℕ
-more plan k b = slice_set plan k (amount plan k + b)
+abbrev pub carried : Direction → ℕ → ℕ → ℕ
+carried Forth x b = x + b
+carried Back x b = x - b
 
-abbrev pub fewer : List ℕ → ℕ → ℕ → List ℕ
-fewer plan k b = slice_set plan k (amount plan k - b)
+abbrev pub shifted : Direction → List ℕ → ℕ → ℕ → List ℕ
+shifted d plan k b = slice_set plan k (carried d (amount plan k) b)
 
--- within the capacity in force, and not past the standing amount where the step moves towards it
-pub record SendsForth (net : Net) (standing plan : List ℕ) (k b : ℕ) : Type 0 where
+-- by the capacity in force, the standing amount and the amount: within the capacity and no more than the leg carries, and
+-- not past the standing amount where the step moves towards it
+abbrev pub Takes : Direction → ℕ → ℕ → ℕ → ℕ → Type 0
+Takes Forth m s x b = (x + b ≤ m) × (x < s → x + b ≤ s)
+Takes Back m s x b = (b ≤ x) × (s < x → s ≤ x - b)
+
+pub record SendsAlong (d : Direction) (net : Net) (standing plan : List ℕ) (k b : ℕ) : Type 0 where
   pub joined : Joined net k
   pub planned : k < length plan
-  pub within : amount plan k + b ≤ in_force (leg_at net k)
-  pub short : amount plan k < amount standing k → amount plan k + b ≤ amount standing k
+  pub takes : Takes d (in_force (leg_at net k)) (amount standing k) (amount plan k) b
 
--- no more than the leg carries, and not past the standing amount where the step moves towards it
-pub record SendsBack (net : Net) (standing plan : List ℕ) (k b : ℕ) : Type 0 where
-  pub joined : Joined net k
-  pub planned : k < length plan
-  pub carried : b ≤ amount plan k
-  pub beyond : amount standing k < amount plan k → amount standing k ≤ amount plan k - b
+-- by the capacity in force, the standing amount and the amount
+abbrev pub room : Direction → ℕ → ℕ → ℕ → ℕ
+room Forth m s x = cond (nat_lt x s) (min s m) m - x
+room Back m s x = x - cond (nat_lt s x) s 0
 
-abbrev pub room_forth : Net → List ℕ → List ℕ → ℕ → ℕ
-room_forth net standing plan k = cond (nat_lt (amount plan k) (amount standing k)) (min (amount standing k) (in_force (leg_at net k))) (in_force (leg_at net k)) - amount plan k
-
-abbrev pub room_back : List ℕ → List ℕ → ℕ → ℕ
-room_back standing plan k = amount plan k - cond (nat_lt (amount standing k) (amount plan k)) (amount standing k) 0
+abbrev pub room_over : Direction → Net → List ℕ → List ℕ → ℕ → ℕ
+room_over d net standing plan k = room d (in_force (leg_at net k)) (amount standing k) (amount plan k)
 
 -- `moved` says of every station what the fields behind it say one by one; `here b u w` is b where w is u, else 0
 pub record Sent (net : Net) (plan after : List ℕ) (b u v : ℕ) : Type 0 where

@@ -13,36 +13,31 @@
 --   NoneOverObeys          where the balances sum to 0, a plan that fits and leaves no bikes over anywhere obeys
 use Rattle.std.specs.Prelude.{◌≡◌, ℕ, ◌+◌, ◌<◌, ◌≤◌, Bool, true, List, length, ℤ, pos, ◌+ℤ◌, ◌≤ℤ◌, fold, ◌≢◌}
 use Rattle.network.specs.Nets.{Net}
-use Rattle.plans.specs.Plans.{stations, leg_at, amount, balance_at, in_force, Fits, Obeys, EndsBelow}
-use Rattle.plans.specs.Residuals.{forth, back, Joined, step_both, BothStep, both_group, Certifies}
+use Rattle.plans.specs.Plans.{stations, leg_at, amount, balance_at, Fits, Obeys, EndsBelow}
+use Rattle.plans.specs.declared.direction.Direction.{Direction}
+use Rattle.plans.specs.Residuals.{Joined, tail, head, residual, step_both, BothStep, both_group, Certifies}
 use Rattle.plans.specs.Prices.{BothRoundTrip}
 use Rattle.plans.specs.Cuts.{left_over}
-use Rattle.certificates.specs.Pushes.{more, fewer, SendsForth, SendsBack, room_forth, room_back, Sent}
+use Rattle.certificates.specs.Pushes.{shifted, SendsAlong, room_over, Sent}
 use Rattle.certificates.specs.Starts.{First, first_plan, level}
 use Rattle.certificates.specs.Totals.{total_below, all_over}
 
--- forth, and back
 abbrev pub PushKeepsCertificate : Type 0
 PushKeepsCertificate =
-    ((net : Net) (standing plan : List ℕ) (π : ℕ → ℤ × ℤ) (k b : ℕ) → Certifies net standing plan π → SendsForth net standing plan k b
-    → (0 < b → π (leg_at net k).end ≡ both_group.add (π (leg_at net k).start) (step_both net standing plan forth k)) → Certifies net standing (more plan k b) π)
-    × ((net : Net) (standing plan : List ℕ) (π : ℕ → ℤ × ℤ) (k b : ℕ) → Certifies net standing plan π → SendsBack net standing plan k b
-    → (0 < b → π (leg_at net k).start ≡ both_group.add (π (leg_at net k).end) (step_both net standing plan back k)) → Certifies net standing (fewer plan k b) π)
+    (d : Direction) (net : Net) (standing plan : List ℕ) (π : ℕ → ℤ × ℤ) (k b : ℕ) → Certifies net standing plan π → SendsAlong d net standing plan k b
+    → (0 < b → π (head d (leg_at net k)) ≡ both_group.add (π (tail d (leg_at net k))) (step_both net standing plan d k)) → Certifies net standing (shifted d plan k b) π
 
--- forth, and back; a leg that leads from a station to the same one changes nothing
+-- a leg that leads from a station to the same one changes nothing
 abbrev pub PushMovesEnds : Type 0
 PushMovesEnds =
-    ((net : Net) (plan : List ℕ) (k b : ℕ) → Fits net plan → k < length net.legs → amount plan k + b ≤ in_force (leg_at net k) → Sent net plan (more plan k b) b (leg_at net k).start (leg_at net k).end)
-    × ((net : Net) (plan : List ℕ) (k b : ℕ) → Fits net plan → k < length net.legs → b ≤ amount plan k → Sent net plan (fewer plan k b) b (leg_at net k).end (leg_at net k).start)
+    (d : Direction) (net : Net) (plan : List ℕ) (k b : ℕ) → Fits net plan → k < length net.legs → b ≤ residual d (leg_at net k) (amount plan k)
+    → Sent net plan (shifted d plan k b) b (tail d (leg_at net k)) (head d (leg_at net k))
 
 -- in a plan that fits
 abbrev pub RoomsSuffice : Type 0
 RoomsSuffice =
-    (net : Net) (standing plan : List ℕ) (k : ℕ) → Fits net plan → Joined net k
-    → (amount plan k < in_force (leg_at net k) → 0 < room_forth net standing plan k)
-    × (0 < amount plan k → 0 < room_back standing plan k)
-    × ((b : ℕ) → b ≤ room_forth net standing plan k → SendsForth net standing plan k b)
-    × ((b : ℕ) → b ≤ room_back standing plan k → SendsBack net standing plan k b)
+    (d : Direction) (net : Net) (standing plan : List ℕ) (k : ℕ) → Fits net plan → Joined net k
+    → (0 < residual d (leg_at net k) (amount plan k) → 0 < room_over d net standing plan k) × ((b : ℕ) → b ≤ room_over d net standing plan k → SendsAlong d net standing plan k b)
 
 -- no push at all; the earlier part of the way first; the later part first
 abbrev pub PushesJoin : Type 0

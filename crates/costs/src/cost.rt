@@ -1,37 +1,33 @@
 // What every kind of cost has: a zero, a sum, a negative and an order.
 ghost use Rattle.std.specs.Prelude.{◌≡◌, ℕ, ◌+◌, ◌^◌, ◌≤◌, Decides};
-ghost use Rattle.theory.specs.Groups.{OrderedGroup};
 
-// A cost stands for its worth, a member of an ordered group, whose laws every kind owes. Its size says how far its
-// parts are from zero: within 2^40 a sum and a negative are exact, and beyond that they stop at a limit.
-pub trait Cost: Copy + Drop {
-    ghost Worth: { Type 0 };
+use theory::Grouped;
 
-    ghost group: { OrderedGroup Worth };
-
-    ghost worth: { Self → Worth };
-
+// A cost stands for its worth, a member of the ordered group of its kind. Its size says how far its parts are from zero:
+// within 2^40 a sum and a negative are exact, and beyond that they stop at a limit.
+// Methods of its own and no `Default`, `Add`, `Neg`, `Ord`: what those promise says nothing of worths.
+pub trait Cost: Grouped + Copy + Drop {
     ghost size: { Self → ℕ };
 
     // The cost that leaves every cost as it is.
     fn zero() -> Self
-        ensures { (worth result ≡ group.zero) × (size result ≡ 0) };
+        ensures { (Self.worth result ≡ Self.group.zero) × (size result ≡ 0) };
 
     // Both costs together.
     fn sum(self, other: Self) -> Self
-        ensures exact { size self + size other ≤ 2 ^ 40 → (worth result ≡ group.add (worth self) (worth other)) × (size result ≤ size self + size other) };
+        ensures exact { size self + size other ≤ 2 ^ 40 → (Self.worth result ≡ Self.group.add (Self.worth self) (Self.worth other)) × (size result ≤ size self + size other) };
 
     // What sums to zero with the cost.
     fn negative(self) -> Self
-        ensures exact { size self ≤ 2 ^ 40 → (worth result ≡ group.neg (worth self)) × (size result ≡ size self) };
+        ensures exact { size self ≤ 2 ^ 40 → (Self.worth result ≡ Self.group.neg (Self.worth self)) × (size result ≡ size self) };
 
     // Whether the cost is no more than the other.
     fn at_most(self, other: Self) -> bool
-        ensures { Decides result (group.le (worth self) (worth other)) };
+        ensures { Decides result (Self.group.le (Self.worth self) (Self.worth other)) };
 
     // Whether the cost is less than the other.
     fn below(self, other: Self) -> bool
-        ensures { Decides result (group.le (worth other) (worth self) → ⊥) }
+        ensures { Decides result (Self.group.le (Self.worth other) (Self.worth self) → ⊥) }
     {
         !other.at_most(self)
     }

@@ -1,10 +1,13 @@
 // Whole numbers of one kind as a kind of cost.
-ghost use Rattle.std.specs.Prelude.{◌≡◌, ℕ, ◌+◌, ◌^◌, ◌≤◌, ℤ, ◌+ℤ◌, neg_ℤ, unsigned_abs};
+ghost use Rattle.std.specs.Prelude.{◌≡◌, ℕ, ◌+◌, ◌^◌, ◌≤◌, Some, ℤ, ◌+ℤ◌, neg_ℤ, unsigned_abs};
 ghost use Rattle.std.specs.Int.{saturate_to_bits};
 ghost use Rattle.theory.specs.Groups.{whole};
+ghost use Rattle.costs.specs.Kinds.{count_text};
 
 use crate::cost::Cost;
+use std::fmt;
 use std::marker::PhantomData;
+use theory::Grouped;
 
 // How many of the kind `K`, below zero, too. Numbers of different kinds are of different types.
 #[derive(Clone, Copy, PartialEq, Eq, Debug)]
@@ -19,14 +22,25 @@ impl<K> Count<K> {
     }
 }
 
+// the number
+impl<K> fmt::Display for Count<K> {
+    ghost output = { λ c. Some (count_text c) };
+
+    fn fmt<W: fmt::Write>(&self, f: &mut fmt::Formatter<W>) -> fmt::Result {
+        write!(f, "{}", self.0)
+    }
+}
+
 // The worth is the integer itself.
-impl<K: Copy> Cost for Count<K> {
-    ghost Worth = { ℤ };
+impl<K> Grouped for Count<K> {
+    ghost Member = { ℤ };
 
     ghost group = { whole };
 
     ghost worth = { λ c. c.0 };
+}
 
+impl<K: Copy> Cost for Count<K> {
     ghost size = { λ c. unsigned_abs c.0 };
 
     fn zero() -> Count<K> {

@@ -1,8 +1,11 @@
 // Pairs of two kinds of cost.
 ghost use Rattle.std.specs.Prelude.{◌≡◌, max};
 ghost use Rattle.theory.specs.Groups.{paired};
+ghost use Rattle.costs.specs.Kinds.{spaced};
 
 use crate::cost::Cost;
+use std::fmt;
+use theory::Grouped;
 
 // The second part decides only between equal first parts.
 #[derive(Clone, Copy, PartialEq, Eq, Debug)]
@@ -11,13 +14,25 @@ pub struct Pair<A, B> {
     pub second: B,
 }
 
+// both parts, with a space between
+impl<A: fmt::Display, B: fmt::Display> fmt::Display for Pair<A, B> {
+    ghost output = { λ p. spaced (A.Display.output p.first) (B.Display.output p.second) };
+
+    fn fmt<W: fmt::Write>(&self, f: &mut fmt::Formatter<W>) -> fmt::Result {
+        let Pair { first, second } = self;
+        write!(f, "{first} {second}")
+    }
+}
+
+impl<A: Grouped, B: Grouped> Grouped for Pair<A, B> {
+    ghost Member = { A.Grouped.Member × B.Grouped.Member };
+
+    ghost group = { paired A.Grouped.group B.Grouped.group };
+
+    ghost worth = { λ p. (A.Grouped.worth p.first, B.Grouped.worth p.second) };
+}
+
 impl<A: Cost, B: Cost> Cost for Pair<A, B> {
-    ghost Worth = { A.Cost.Worth × B.Cost.Worth };
-
-    ghost group = { paired A.Cost.group B.Cost.group };
-
-    ghost worth = { λ p. (A.Cost.worth p.first, B.Cost.worth p.second) };
-
     ghost size = { λ p. max (A.Cost.size p.first) (B.Cost.size p.second) };
 
     fn zero() -> Pair<A, B> {

@@ -6,7 +6,8 @@ use Rattle.theory.specs.Groups.{whole}
 use Rattle.theory.specs.Walks.{start, step, Label}
 use Rattle.theory.proofs.Walking
 use Rattle.plans.specs.Plans.{leg_at, amount, in_force}
-use Rattle.plans.specs.Residuals.{forth, back, forward, backward, step_cents, CentsStep}
+use Rattle.plans.specs.declared.direction.Direction.TheVariants.{Forth, Back}
+use Rattle.plans.specs.Residuals.{forward, backward, step_cents, CentsStep}
 use Rattle.plans.specs.Prices.{Station, CentsWalk, Price}
 use Rattle.plans.proofs.Pricing.{unique}
 use Rattle.examples.specs.Networks.{T}
@@ -31,10 +32,10 @@ along : (u v a b : ℕ) (c d : ℤ) → a ≡ u → b ≡ v → c ≡ d → labe
 along u v a b c d p q e h = rw (← p, ← q, e) h
 
 abbrev Up : ℕ → Type 0
-Up k = amount plan k < in_force (leg_at T k) → label (leg_at T k).end ≤ℤ (label (leg_at T k).start +ℤ step_cents T forth k)
+Up k = amount plan k < in_force (leg_at T k) → label (leg_at T k).end ≤ℤ (label (leg_at T k).start +ℤ step_cents T Forth k)
 
 abbrev Down : ℕ → Type 0
-Down k = 0 < amount plan k → label (leg_at T k).start ≤ℤ (label (leg_at T k).end +ℤ step_cents T back k)
+Down k = 0 < amount plan k → label (leg_at T k).start ≤ℤ (label (leg_at T k).end +ℤ step_cents T Back k)
 
 up : (k : ℕ) → k < 3 → Up k
 up = below_three Up (λ h. absurd (omega arith)) (λ h. absurd (omega arith)) (λ h. le_z_yes tt)
@@ -43,8 +44,8 @@ down : (k : ℕ) → k < 3 → Down k
 down = below_three Down (λ h. le_z_yes tt) (λ h. le_z_yes tt) (λ h. absurd (omega arith))
 
 not_undercut : (u v : ℕ) (c : ℤ) → CentsStep T plan u v c → label v ≤ℤ (label u +ℤ c)
-not_undercut u v c (forward k j p q h e) = along u v (leg_at T k).start (leg_at T k).end c (step_cents T forth k) p q e (up k j.there h)
-not_undercut u v c (backward k j p q h e) = along u v (leg_at T k).end (leg_at T k).start c (step_cents T back k) p q e (down k j.there h)
+not_undercut u v c (forward k j p q h e) = along u v (leg_at T k).start (leg_at T k).end c (step_cents T Forth k) p q e (up k j.there h)
+not_undercut u v c (backward k j p q h e) = along u v (leg_at T k).end (leg_at T k).start c (step_cents T Back k) p q e (down k j.there h)
 
 labels : Label whole (Station T) (CentsStep T plan) (λ v. Unit {0}) label
 labels = record { starts = λ v f. (tt, low v); held = λ u v c r s. (tt, not_undercut u v c s) }

@@ -1,12 +1,9 @@
 -- Of a standing plan only the amounts on the legs count.
-use Rattle.std.proofs.Common.{◌≡◌, ℕ, zero, suc, ◌<◌, List, length, sym, refl, ap, ◌∙◌, arith}
+use Rattle.std.proofs.Common.{◌≡◌, ℕ, List, length, sym, ap, ◌∙◌}
 use Rattle.network.specs.Nets.{Net}
-use Rattle.plans.specs.Plans.{sum_below, amount, apart, difference, CheapestThenNearest}
+use Rattle.plans.specs.Plans.{amount, apart, difference, CheapestThenNearest}
+use Rattle.plans.proofs.Sums.{sum_same}
 use Rattle.examples.specs.Examples.{OnlyBest, Alike}
-
-sum_same : (m : ℕ) (f g : ℕ → ℕ) → ((k : ℕ) → k < m → f k ≡ g k) → sum_below m f ≡ sum_below m g
-sum_same zero f g h = refl
-sum_same (suc m) f g h = let a = sum_same m f g (λ k l. h k (omega arith)) in let b = h m (omega arith) in omega arith
 
 pub same_difference : (net : Net) (standing other plan : List ℕ) → Alike net standing other → difference net standing plan ≡ difference net other plan
 same_difference net standing other plan h = sum_same (length net.legs) (λ k. apart (amount plan k) (amount standing k)) (λ k. apart (amount plan k) (amount other k)) (λ k l. ap (apart (amount plan k)) (h k l))

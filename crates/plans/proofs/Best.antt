@@ -10,7 +10,8 @@ use Rattle.theory.proofs.Adding
 use Rattle.theory.proofs.Duality
 use Rattle.theory.proofs.Walking
 use Rattle.plans.specs.Plans.{stations, leg_at, amount, Obeys, cents, difference, CheapestThenNearest, EndsBelow}
-use Rattle.plans.specs.Residuals.{forth, back, forward, backward, step_bikes, CentsStep, BothStep, both_group, Certifies}
+use Rattle.plans.specs.declared.direction.Direction.TheVariants.{Forth, Back}
+use Rattle.plans.specs.Residuals.{forward, backward, step_bikes, CentsStep, BothStep, both_group, Certifies}
 use Rattle.plans.specs.Prices.{CentsRoundTrip}
 use Rattle.plans.proofs.Arcing.{arc, arcs, arcs_of, one_more, one_less, curved, feasible, paid, placed, joined}
 
@@ -48,8 +49,8 @@ best net standing plan π e h c =
 
 -- a step at its cents, with its bikes
 pub with_bikes : (net : Net) (standing plan : List ℕ) (u v : ℕ) (c : ℤ) → CentsStep net plan u v c → (b : ℤ) × BothStep net standing plan u v (c, b)
-with_bikes net standing plan u v c (forward k j p q i e) = (step_bikes standing plan forth k, forward k j p q i (ap (λ z. (z, step_bikes standing plan forth k)) e))
-with_bikes net standing plan u v c (backward k j p q i e) = (step_bikes standing plan back k, backward k j p q i (ap (λ z. (z, step_bikes standing plan back k)) e))
+with_bikes net standing plan u v c (forward k j p q i e) = (step_bikes standing plan Forth k, forward k j p q i (ap (λ z. (z, step_bikes standing plan Forth k)) e))
+with_bikes net standing plan u v c (backward k j p q i e) = (step_bikes standing plan Back k, backward k j p q i (ap (λ z. (z, step_bikes standing plan Back k)) e))
 
 pub no_round_trip : (net : Net) (standing plan : List ℕ) (π : ℕ → ℤ × ℤ) → Certifies net standing plan π → CentsRoundTrip net plan → ⊥
 no_round_trip net standing plan π c trip =

@@ -6,11 +6,12 @@ use Rattle.std.proofs.lemmas.Bool.{both_ways, cases_lt}
 use Rattle.records.specs.Cleared.{cleared_leg}
 use Rattle.records.specs.declared.leg.Leg.{Leg}
 use Rattle.network.specs.Nets.{Net}
-use Rattle.theory.specs.Arcs.{gather, Full, AllFull}
+use Rattle.theory.specs.Arcs.{gather, outward, owed, Full, AllFull}
 use Rattle.theory.specs.Walks.{Distinct}
 use Rattle.theory.proofs.Cuts as Crossing
 use Rattle.plans.specs.Plans.{stations, leg_at, amount, balance_at, in_force, bikes_out, bikes_in, Fits, Obeys, EndsBelow}
-use Rattle.plans.specs.Residuals.{Direction, forward, backward}
+use Rattle.plans.specs.declared.direction.Direction.{Direction}
+use Rattle.plans.specs.Residuals.{forward, backward}
 use Rattle.plans.specs.Cuts.{among, sum_over, leaving, Cut, left_over, Uncrossed}
 use Rattle.plans.proofs.Sums.{owed_same, owed_listed, sum_over_parts, sum_over_some}
 use Rattle.plans.proofs.Arcing.{arc, arcs, arcs_of, each, gathered_out, gathered_in, fits, feasible, outward_is, joined}
@@ -47,15 +48,19 @@ all_full S (l ∷ ls) s [] h = tt
 all_full S (l ∷ ls) s (x ∷ xs) h = (h 0 (omega arith), all_full S ls (λ k. s (suc k)) xs (λ k i. h (suc k) (omega arith)))
 
 -- what the stations send out, net
-abbrev sent : Net → List ℕ → ℕ → ℤ
+abbrev pub sent : Net → List ℕ → ℕ → ℤ
 sent net plan v = pos (bikes_out net plan v) -ℤ pos (bikes_in net plan v)
+
+-- from a set that legs outwards leave full and legs inwards empty
+pub all_sent : (net : Net) (plan : List ℕ) (S : ℕ → Bool) → EndsBelow net → Fits net plan → AllFull S (arcs_of net []) plan → owed (stations net) S (sent net plan) ≡ pos (outward S (arcs_of net []))
+all_sent net plan S e f a =
+    owed_same (stations net) S (sent net plan) (λ v. pos (gather (λ a. a.from) v (arcs_of net []) plan) -ℤ pos (gather (λ a. a.to) v (arcs_of net []) plan)) (λ v _. omega (arith, ints, gathered_out net [] plan v f.one_each, gathered_in net [] plan v f.one_each))
+    ∙ Crossing.sends (stations net) S (arcs_of net []) plan (starts net e) (ends net e) (fits net [] plan f) a
 
 sends : {A : Type 0} (net : Net) (plan : List ℕ) (cost : Direction → ℕ → A) (vs : List ℕ) → EndsBelow net → Fits net plan → Distinct vs → AllByRecursion (λ v. v < stations net) vs → Uncrossed net plan cost vs → sum_over (sent net plan) vs ≡ pos (leaving net vs)
 sends net plan cost vs e f d b u =
     sym (owed_listed (stations net) vs (sent net plan) d b)
-    ∙ owed_same (stations net) (λ v. among v vs) (sent net plan) (λ v. pos (gather (λ a. a.from) v (arcs_of net []) plan) -ℤ pos (gather (λ a. a.to) v (arcs_of net []) plan))
-    (λ v _. ap (λ x. pos x -ℤ pos (bikes_in net plan v)) (sym (gathered_out net [] plan v f.one_each)) ∙ ap (λ x. pos (gather (λ a. a.from) v (arcs_of net []) plan) -ℤ pos x) (sym (gathered_in net [] plan v f.one_each)))
-    ∙ Crossing.sends (stations net) (λ v. among v vs) (arcs_of net []) plan (starts net e) (ends net e) (fits net [] plan f) (all_full (λ v. among v vs) net.legs (amount []) plan (full_at net plan cost vs e u))
+    ∙ all_sent net plan (λ v. among v vs) e f (all_full (λ v. among v vs) net.legs (amount []) plan (full_at net plan cost vs e u))
     ∙ ap pos (outward_is net [] vs)
 
 pub is_cut : {A : Type 0} (net : Net) (plan : List ℕ) (cost : Direction → ℕ → A) (vs : List ℕ) → EndsBelow net → Fits net plan → Distinct vs → AllByRecursion (λ v. v < stations net) vs → Uncrossed net plan cost vs

@@ -5,3 +5,4 @@ pub mod Cutting
 pub mod Listed
 pub mod Pricing
 pub mod Around
+pub mod Lending

@@ -5,7 +5,9 @@ use Rattle.std.proofs.lemmas.Bool.{ltb-true, lt-ltb, and_parts, and_from}
 use Rattle.network.specs.Nets.{Net}
 use Rattle.theory.specs.Walks.{Edge, Among}
 use Rattle.plans.specs.Plans.{stations, leg_at, amount, in_force}
-use Rattle.plans.specs.Residuals.{Direction, forth, back, Joined, Step, forward, backward}
+use Rattle.plans.specs.declared.direction.Direction.{Direction}
+use Rattle.plans.specs.declared.direction.Direction.TheVariants.{Forth, Back}
+use Rattle.plans.specs.Residuals.{Joined, Step, forward, backward}
 
 -- an edge that is there if a test holds
 abbrev guarded : {A : Type 0} → Bool → Edge A → List (Edge A) → List (Edge A)
@@ -31,10 +33,10 @@ module _ {A : Type 0} (net : Net) (plan : List ℕ) (cost : Direction → ℕ �
   tested k t = ltb (leg_at net k).start (stations net) && (ltb (leg_at net k).end (stations net) && t)
 
   abbrev forward_edge : ℕ → Edge A
-  forward_edge k = record { from = (leg_at net k).start; to = (leg_at net k).end; cost = cost forth k }
+  forward_edge k = record { from = (leg_at net k).start; to = (leg_at net k).end; cost = cost Forth k }
 
   abbrev backward_edge : ℕ → Edge A
-  backward_edge k = record { from = (leg_at net k).end; to = (leg_at net k).start; cost = cost back k }
+  backward_edge k = record { from = (leg_at net k).end; to = (leg_at net k).start; cost = cost Back k }
 
   abbrev onward : ℕ → Bool
   onward k = tested k (ltb (amount plan k) (in_force (leg_at net k)))

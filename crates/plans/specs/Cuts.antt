@@ -10,7 +10,8 @@ use Rattle.std.specs.List.{AllByRecursion}
 use Rattle.network.specs.Nets.{Net}
 use Rattle.theory.specs.Walks.{Distinct}
 use Rattle.plans.specs.Plans.{sum_below, stations, leg_at, balance_at, in_force, bikes_out, bikes_in}
-use Rattle.plans.specs.Residuals.{Direction, Step}
+use Rattle.plans.specs.declared.direction.Direction.{Direction}
+use Rattle.plans.specs.Residuals.{Step}
 
 abbrev pub among : ℕ → List ℕ → Bool
 among v [] = false

@@ -3,3 +3,4 @@ pub mod Residuals
 pub mod Prices
 pub mod Cuts
 pub mod Theorems
+pub mod Slices

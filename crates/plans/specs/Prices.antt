@@ -1,14 +1,13 @@
 -- Walks on the residual network of a plan, and the prices of stations.
 --   Station           a number below n
 --   CentsWalk         a walk of steps from any station: its end, the stations before (the latest first), its total in cents
---   SimpleCentsWalk   a walk that meets no station twice: its end and its total
 --   Price             the price of a station
 --   CentsRoundTrip    a round trip of steps that totals below zero cents
 --   BothRoundTrip     the same in pairs of cents and bikes of difference
 use Rattle.std.specs.Prelude.{ℕ, ◌<◌, List, ℤ}
 use Rattle.network.specs.Nets.{Net}
 use Rattle.theory.specs.Groups.{whole}
-use Rattle.theory.specs.Walks.{Walk, SimpleWalk, RoundTrip}
+use Rattle.theory.specs.Walks.{Walk, RoundTrip}
 use Rattle.theory.specs.Walks
 use Rattle.plans.specs.Plans.{stations}
 use Rattle.plans.specs.Residuals.{CentsStep, BothStep, both_group}
@@ -19,9 +18,6 @@ Station net v = v < stations net
 -- the walk without steps totals 0
 abbrev pub CentsWalk : Net → List ℕ → ℕ → List ℕ → ℤ → Type 0
 CentsWalk net plan = Walk whole (Station net) (CentsStep net plan)
-
-abbrev pub SimpleCentsWalk : Net → List ℕ → ℕ → ℤ → Type 0
-SimpleCentsWalk net plan = SimpleWalk whole (Station net) (CentsStep net plan)
 
 -- the least total of the simple walks that end there: one has it, and none has less
 abbrev pub Price : Net → List ℕ → ℕ → ℤ → Type 0

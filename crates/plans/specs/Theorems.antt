@@ -12,7 +12,8 @@ use Rattle.std.specs.List.{AllByRecursion}
 use Rattle.network.specs.Nets.{Net}
 use Rattle.theory.specs.Walks.{Distinct}
 use Rattle.plans.specs.Plans.{stations, Fits, Obeys, CheapestThenNearest, EndsBelow}
-use Rattle.plans.specs.Residuals.{Direction, CentsStep, Certifies}
+use Rattle.plans.specs.declared.direction.Direction.{Direction}
+use Rattle.plans.specs.Residuals.{CentsStep, Certifies}
 use Rattle.plans.specs.Prices.{CentsWalk, Price, CentsRoundTrip, BothRoundTrip}
 use Rattle.plans.specs.Cuts.{among, Cut, left_over, Uncrossed}
 

@@ -4,6 +4,10 @@
 
 ghost use Rattle.plans.specs.Theorems.{BestHasNoRoundTrip, CertifiedHasNoRoundTrip, CertifiedIsBest, CutExcludesPlans, PricesAreUnique, PricesExist, PricesMeetReducedCost, UncrossedIsCut};
 
+pub mod direction;
+
+pub use direction::Direction;
+
 // A plan that obeys is cheapest, then nearest, if no residual step undercuts some potential.
 pub fn certified_plan_is_cheapest_then_nearest()
     ensures { CertifiedIsBest }

@@ -10,33 +10,37 @@ use Rattle.std.specs.Prelude.{◌≡◌, ℕ, cond, List, ℤ, pos, negsuc, neg_
 use Rattle.costs.specs.Kinds.{Cents, Bikes, CentsThenBikes, count}
 use Rattle.records.specs.declared.leg.Leg.{Leg}
 use Rattle.network.specs.Nets.{Net}
-use Rattle.plans.specs.Plans.{leg_at, amount}
-use Rattle.plans.specs.Residuals.{Direction, forth, back, step_cents, step_both}
+use Rattle.plans.specs.Plans.{amount}
+use Rattle.plans.specs.declared.direction.Direction.{Direction}
+use Rattle.plans.specs.declared.direction.Direction.TheVariants.{Forth, Back}
+use Rattle.plans.specs.Residuals.{step_cents, step_both}
+use Rattle.steps.specs.declared.load.Load.{Load}
+use Rattle.steps.specs.Loads.{load_of}
 
 -- the charge forth, the negated charge back
 abbrev pub fee_cents : Direction → Leg → Cents
-fee_cents forth l = count (pos l.charge)
-fee_cents back l = count (neg_ℤ (pos l.charge))
+fee_cents Forth l = count (pos l.charge)
+fee_cents Back l = count (neg_ℤ (pos l.charge))
 
 -- from the standing amount and the amount: -1 towards the standing amount, 1 away from it
 abbrev pub fee_bikes : Direction → ℕ → ℕ → Bikes
-fee_bikes forth s x = count (cond (nat_le s x) (pos 1) (negsuc 0))
-fee_bikes back s x = count (cond (nat_lt s x) (negsuc 0) (pos 1))
+fee_bikes Forth s x = count (cond (nat_le s x) (pos 1) (negsuc 0))
+fee_bikes Back s x = count (cond (nat_lt s x) (negsuc 0) (pos 1))
 
-abbrev pub fee_both : List ℕ → Direction → ℕ → Leg → ℕ → CentsThenBikes
-fee_both standing d k l x = record { first = fee_cents d l; second = fee_bikes d (amount standing k) x }
+abbrev pub fee_both : List ℕ → Direction → Load → CentsThenBikes
+fee_both standing d load = record { first = fee_cents d load.leg; second = fee_bikes d (amount standing load.number) load.amount }
 
 -- each leg by its number, at the amount that the plan gives it
-abbrev pub paid : {A : Type 0} → (Direction → ℕ → Leg → ℕ → A) → Net → List ℕ → Direction → ℕ → A
-paid cost net plan d k = cost d k (leg_at net k) (amount plan k)
+abbrev pub paid : {A : Type 0} → (Direction → Load → A) → Net → List ℕ → Direction → ℕ → A
+paid cost net plan d k = cost d (load_of net plan k)
 
 -- the worths of the fees in cents
-abbrev pub cents_worth : Direction → ℕ → Leg → ℕ → ℤ
-cents_worth d k l x = (fee_cents d l).0
+abbrev pub cents_worth : Direction → Load → ℤ
+cents_worth d load = (fee_cents d load.leg).0
 
 -- the worths of the fees in both, over a standing plan
-abbrev pub both_worth : List ℕ → Direction → ℕ → Leg → ℕ → ℤ × ℤ
-both_worth standing d k l x = ((fee_both standing d k l x).first.0, (fee_both standing d k l x).second.0)
+abbrev pub both_worth : List ℕ → Direction → Load → ℤ × ℤ
+both_worth standing d load = ((fee_both standing d load).first.0, (fee_both standing d load).second.0)
 
 abbrev pub CentsAreStepCents : Type 0
 CentsAreStepCents = (net : Net) (plan : List ℕ) → paid cents_worth net plan ≡ step_cents net

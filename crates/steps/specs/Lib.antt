@@ -1,1 +1,3 @@
+pub mod Loads
 pub mod Fees
+pub mod Texts

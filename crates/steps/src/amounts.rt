@@ -4,7 +4,8 @@ ghost use Rattle.plans.specs.Plans.{amount, in_force};
 
 use records::{Leg, Mark};
 
-// The amount of a leg by its number; one that is missing counts as 0.
+// The amount of a leg by its number; one that is missing counts as 0. It is `get` and `unwrap_or` of the
+// library under a name; `Draft::left_at` is the same of another type.
 pub fn amount_at(amounts: &[u16], number: usize) -> u16
     ensures { result ≡ amount amounts.now number }
 {

@@ -1,73 +1,60 @@
 // What a residual step costs.
-ghost use Rattle.std.specs.Prelude.{◌≡◌, ℕ, ◌≤◌};
-ghost use Rattle.records.specs.declared.leg.Leg.{Leg};
-ghost use Rattle.plans.specs.Residuals.{Direction, forth, back};
+ghost use Rattle.std.specs.Prelude.{◌≡◌, ◌≤◌};
+ghost use Rattle.plans.specs.declared.direction.Direction.{Direction};
+ghost use Rattle.steps.specs.declared.load.Load.{Load};
 ghost use Rattle.steps.specs.Fees.{BothAreStepBoth, CentsAreStepCents, fee_both, fee_cents};
 
 use crate::amounts::amount_at;
+use crate::load::Load;
 use costs::{Bikes, Cents, CentsThenBikes, Cost, Pair};
-use records::Leg;
+use plans::Direction;
 
-// What a step over a leg costs, by its direction, the leg's number, the leg and the amount it carries.
+// What a step over a leg costs, by its direction, the leg and what it carries.
 // No part of it is further from zero than a charge can be.
 pub trait Fees<C: Cost> {
-    ghost cost: { Self → Direction → ℕ → Leg → ℕ → C };
+    ghost cost: { Self → Direction → Load → C };
 
-    // One bike more over a leg.
-    fn forth(&self, number: usize, leg: Leg, amount: u16) -> C
-        ensures { (C.Cost.worth result ≡ C.Cost.worth (cost self.now forth number leg amount)) × (C.Cost.size result ≤ 4294967295) };
-
-    // One bike less over a leg.
-    fn back(&self, number: usize, leg: Leg, amount: u16) -> C
-        ensures { (C.Cost.worth result ≡ C.Cost.worth (cost self.now back number leg amount)) × (C.Cost.size result ≤ 4294967295) };
+    // One bike more over a leg, or one less.
+    fn fee(&self, direction: Direction, load: Load) -> C
+        ensures { (C.Grouped.worth result ≡ C.Grouped.worth (cost self.now direction load)) × (C.Cost.size result ≤ 4294967295) };
 }
 
 // Steps cost cents: the charge forth, the negated charge back.
-#[derive(Clone, Copy)]
+#[derive(Clone, Copy, PartialEq, Eq, Debug)]
 pub struct InCents;
 
 impl Fees<Cents> for InCents {
-    ghost cost = { λ _ d _ l _. fee_cents d l };
+    ghost cost = { λ _ direction load. fee_cents direction load.leg };
 
-    fn forth(&self, _number: usize, leg: Leg, _amount: u16) -> Cents {
-        Cents::new(i64::from(leg.charge))
-    }
-
-    fn back(&self, _number: usize, leg: Leg, _amount: u16) -> Cents {
-        Cents::new(-i64::from(leg.charge))
+    #[inline(always)]
+    fn fee(&self, direction: Direction, load: Load) -> Cents {
+        let charge = i64::from(load.leg.charge);
+        Cents::new(match direction {
+            Direction::Forth => charge,
+            Direction::Back => -charge,
+        })
     }
 }
 
 // Steps cost cents and bikes of difference from a standing plan, whose missing amounts count as 0.
-#[derive(Clone, Copy)]
+#[derive(Clone, Copy, PartialEq, Eq, Debug)]
 pub struct InBoth<'a> {
     pub standing: &'a [u16],
 }
 
 impl<'a> Fees<CentsThenBikes> for InBoth<'a> {
-    ghost cost = { λ s d k l x. fee_both s.standing.now d k l x };
+    ghost cost = { λ s direction load. fee_both s.standing.now direction load };
 
-    fn forth(&self, number: usize, leg: Leg, amount: u16) -> CentsThenBikes {
-        let bikes = if amount_at(self.standing, number) <= amount {
-            1
-        } else {
-            -1
+    #[inline(always)]
+    fn fee(&self, direction: Direction, load: Load) -> CentsThenBikes {
+        let standing = amount_at(self.standing, load.number);
+        let is_away = match direction {
+            Direction::Forth => standing <= load.amount,
+            Direction::Back => load.amount <= standing,
         };
         Pair {
-            first: InCents.forth(number, leg, amount),
-            second: Bikes::new(bikes),
-        }
-    }
-
-    fn back(&self, number: usize, leg: Leg, amount: u16) -> CentsThenBikes {
-        let bikes = if amount_at(self.standing, number) < amount {
-            -1
-        } else {
-            1
-        };
-        Pair {
-            first: InCents.back(number, leg, amount),
-            second: Bikes::new(bikes),
+            first: InCents.fee(direction, load),
+            second: Bikes::new(if is_away { 1 } else { -1 }),
         }
     }
 }

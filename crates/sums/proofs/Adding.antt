@@ -1,29 +1,19 @@
 -- Sums over the legs.
-use Rattle.std.proofs.Common.{◌≡◌, ℕ, zero, suc, ◌+◌, ◌*◌, ◌^◌, ◌<◌, ◌≤◌, List, map, sum, refl, sym, ap, ◌∙◌, add-one, zero-mul, arith, Some, None, Option, MatchOption}
+use Rattle.std.proofs.Common.{◌≡◌, ℕ, zero, suc, ◌+◌, ◌^◌, ◌<◌, ◌≤◌, List, map, sum, refl, sym, ap, ◌∙◌, add-one, arith}
 use denote.Param.Members.{Mut}
 use Rattle.std.specs.Fn.{Called}
 use Rattle.std.specs.Iterator.{Drains}
 use Rattle.std.specs.Iterator.Adapters.{map_callee, map_source, map_steps}
 use Rattle.std.specs.Iterator.Runs.{EachRunFrom}
-use Rattle.std.specs.List.{fold, range_with_len, slice_get}
+use Rattle.std.specs.List.{fold, range_with_len}
 use Rattle.std.specs.declared.iter.Map.{Map}
 use Rattle.std.specs.declared.ops.Range.{Range}
 use Rattle.std.proofs.iter.Yields.{nat_range_steps}
-use Rattle.std.proofs.lemmas.Option.{get_or_from_slice_get}
-use Rattle.records.specs.Cleared.{cleared_leg}
-use Rattle.records.specs.declared.leg.Leg.{Leg}
-use Rattle.network.specs.Nets.{Net}
-use Rattle.network.proofs.Places.{get_or_none}
 use Rattle.std.proofs.lemmas.List.FromFn.{length-range_with_len, sum_by-map-range_with_len_more}
 use Rattle.std.proofs.lemmas.Iterator.{YieldsList-from_range, YieldsList-from_map}
 use Rattle.std.proofs.lemmas.Iterator.Adapters.{at_most_from_yields_List, fits_from_length}
 use Rattle.std.proofs.lemmas.Iterator.Consumers.{sum_from_yields_List}
-use Rattle.plans.specs.Plans.{leg_at, sum_below}
-
--- the cents on a leg as code asks for it
-pub cents_asked : (net : Net) (k : ℕ) (o : Option Leg) (r a : ℕ) → o ≡ slice_get net.legs k → MatchOption o (r ≡ 0) (λ l. r ≡ l.charge * a) → r ≡ (leg_at net k).charge * a
-cents_asked net k None r a e h = h ∙ sym (ap (λ (l : Leg). l.charge * a) (get_or_none net.legs k cleared_leg (sym e)) ∙ zero-mul a)
-cents_asked net k (Some l) r a e h = h ∙ ap (λ (x : Leg). x.charge * a) (sym (get_or_from_slice_get net.legs k l cleared_leg (sym e)))
+use Rattle.plans.specs.Plans.{sum_below}
 
 -- the sum of a list that a function makes of the numbers below n
 listed : (f : ℕ → ℕ) (n : ℕ) → sum (map f (range_with_len 0 n)) ≡ sum_below n f

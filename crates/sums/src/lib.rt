@@ -6,16 +6,17 @@ ghost use Rattle.std.specs.Prelude.{◌≡◌, ◌*◌, ◌^◌, ◌<◌};
 ghost use Rattle.plans.specs.Plans.{amount, apart, cents, difference, leg_at};
 
 use network::Network;
-use steps::amount_at;
+use steps::{Load, amount_at};
 
 // The cents of the bikes on one leg, 0 of a leg that is not there.
 fn cents_on<N: Network>(net: &N, plan: &[u16], number: usize) -> u64
     ensures value { result ≡ (leg_at (N.Network.meaning net.now) number).charge * amount plan.now number }
     ensures bound { result < 2 ^ 48 }
 {
-    net.leg(number).map_or(0, |leg| {
-        u64::from(leg.charge) * u64::from(amount_at(plan, number))
-    })
+    Load::of(net, plan, number).map_or(
+        0,
+        |load| u64::from(load.leg.charge) * u64::from(load.amount),
+    )
 }
 
 // The cents of a plan: charge × bikes over all legs.

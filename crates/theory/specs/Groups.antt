@@ -3,6 +3,8 @@
 --   whole          the integers
 --   lex            pairs by the first part, and by the second where the first parts are equal
 --   paired         the pairs of two ordered groups under that order
+--   undo           what was added is taken off again
+--   cancel         the order is kept by what both sides lose
 -- The other definitions are steps towards the laws of these.
 use Rattle.std.specs.Prelude.{◌≡◌, ◌⊎◌, ℤ, pos, ◌+ℤ◌, neg_ℤ, ◌≤ℤ◌}
 use Rattle.std.proofs.Common.{inl, inr, sym, ap, ◌∙◌, subst}

@@ -1,36 +1,17 @@
 // Theorems about plans, walks and prices over any ordered group. Each is the promise of one function.
 #![tactic(auto)]
 
-ghost use Rattle.std.specs.Prelude.{◌≡◌, ℤ};
-ghost use Rattle.theory.specs.Groups.{OrderedGroup, whole, paired};
+ghost use Rattle.theory.specs.Groups.{OrderedGroup};
 ghost use Rattle.theory.specs.Theorems.{CutHolds, Exchange, FewDistinct, FullCut, LabelsAreLeast, LabelsExcludeRoundTrips, LeastAtOneLeg, LeastTotalsExist, PriceIsLeast, PushAlongTrail, ReducedCostOfPrices, RoundTripIsTrail, RoundTripsRemoved, RoundsReach, RoundsShowTrip, UndercutByNoStep};
 
-// What costs are added and compared in: an ordered group.
+// Values that stand for members of an ordered group, in which they are added and compared.
 pub trait Grouped {
     ghost Member: { Type 0 };
 
     ghost group: { OrderedGroup Member };
-}
 
-// The integers.
-pub struct Integers;
-
-impl Grouped for Integers {
-    ghost Member = { ℤ };
-
-    ghost group = { whole };
-}
-
-// Pairs, where the second part decides only between equal first parts. The laws come from those of the parts.
-pub struct Lexicographic<A, B> {
-    pub first: A,
-    pub second: B,
-}
-
-impl<A: Grouped, B: Grouped> Grouped for Lexicographic<A, B> {
-    ghost Member = { A.Grouped.Member × B.Grouped.Member };
-
-    ghost group = { paired A.Grouped.group B.Grouped.group };
+    // the member that a value stands for
+    ghost worth: { Self → Member };
 }
 
 // Sums over the stations are sums over the legs.
