@@ -2,31 +2,34 @@
 // network of a plan.
 #![tactic(auto)]
 
+ghost use Rattle.chain_search.specs.Chains.{SameChains};
 ghost use Rattle.chain_prices.specs.Priced.{Priced};
 
-use chain_search::{Label, Links};
+use chain_search::{Chains, Label, Outcome};
 use costs::Cents;
 use network::Network;
 use prices::write_prices;
 use records::Refusal;
 use steps::{Everywhere, InCents};
 
-// Writes the price of every station, if no round trip of residual steps totals below zero, and says
-// whether it did. Amounts that the plan lacks count as 0; the labels, heads and nexts are for
-// the search to work in.
+// Writes the price of every station, if no round trip of residual steps totals below zero, and answers how the
+// search for them ended. Amounts that the plan lacks count as 0; the labels and the chains are for the search to work in.
+// The lines are those of `prices::prices` around another search: a function over both would take the search as a closure with
+// the contract of one, and the two contracts differ by the chains.
 pub fn prices<N: Network>(
     net: &N,
     plan: &[u16],
     labels: &mut [Label<Cents>],
-    heads: &mut [Links],
-    nexts: &mut [Links],
+    chains: &mut Chains<'_>,
     prices: &mut [i64],
-) -> Result<bool, Refusal>
-    ensures { Priced (N.Network.meaning net.now) plan.now result labels.old labels.new heads.old heads.new nexts.old nexts.new prices.old prices.new }
+) -> Result<Outcome, Refusal>
+    ensures priced { Priced (N.Network.meaning net.now) plan.now result labels.old labels.new chains.old chains.new prices.old prices.new }
+    ensures stay { SameChains chains.old chains.new }
 {
     if prices.len() < net.stations() {
         return Err(Refusal::SliceTooShort);
     }
-    let outcome = chain_search::search(net, plan, &InCents, &Everywhere, labels, heads, nexts)?;
-    Ok(write_prices(net, outcome, labels, prices))
+    let outcome = chain_search::search(net, plan, &InCents, &Everywhere, labels, chains)?;
+    write_prices(net, outcome, labels, prices);
+    Ok(outcome)
 }

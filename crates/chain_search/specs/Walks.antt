@@ -2,23 +2,22 @@
 --   Walks      what relaxing the steps of a chain does
 --   Visits     what relaxing all steps from a station does
 use Rattle.std.specs.Prelude.{◌≡◌, ℕ, ◌≤◌, List, Some}
-use Rattle.records.specs.declared.leg.Leg.{Leg}
 use Rattle.network.specs.Nets.{Net}
-use Rattle.theory.specs.Groups.{OrderedGroup}
-use Rattle.plans.specs.Residuals.{Direction}
+use Rattle.theory.specs.declared.Grouped.{Ghosts as Kind}
+use Rattle.plans.specs.declared.direction.Direction.{Direction}
+use Rattle.steps.specs.declared.load.Load.{Load}
 use Rattle.search.specs.Labels.{label_at, fresh}
 use Rattle.search.specs.Sweeps.{Falls, SweepOf, RelaxedOf, VisitedOf}
-use Rattle.search.specs.Ways.{last_by}
 use Rattle.search.specs.declared.label.Label.{Label}
-use Rattle.search.specs.declared.relax.Way.{Way}
 
 -- whatever the labels were at the beginning of the round
-module _ {C A : Type 0} (G : OrderedGroup A) (worth : C → A) (size : C → ℕ) (cost : Direction → ℕ → Leg → ℕ → A) where
+module _ {C : Type 0} (K : Kind C) (size : C → ℕ) (net : Net) (plan : List ℕ) (cost : Direction → Load → C) where
   -- the legs from k on, in the chain of the station u whose changed label has the total
-  abbrev pub Walks : Net → List ℕ → Way → ℕ → C → ℕ → List (Label C) → List (Label C) → Type 0
-  Walks net plan w u total k before after =
+  abbrev pub Walks : Direction → ℕ → C → ℕ → List (Label C) → List (Label C) → Type 0
+  Walks d u total k before after =
       (old : List (Label C)) → fresh (label_at old u) ≡ Some total
-      → SweepOf G worth size cost net plan old before → SweepOf G worth size cost net plan old after × Falls G worth before after × ((j : ℕ) → k ≤ j → RelaxedOf G worth size cost net plan (last_by w j) u total after)
+      → SweepOf K size net plan cost old before
+      → SweepOf K size net plan cost old after × Falls K before after × ((j : ℕ) → k ≤ j → RelaxedOf K size net plan cost (record { direction = d; leg = j }) u total after)
 
-  abbrev pub Visits : Net → List ℕ → ℕ → List (Label C) → List (Label C) → Type 0
-  Visits net plan u before after = (old : List (Label C)) → SweepOf G worth size cost net plan old before → SweepOf G worth size cost net plan old after × Falls G worth before after × VisitedOf G worth size cost net plan u old after
+  abbrev pub Visits : ℕ → List (Label C) → List (Label C) → Type 0
+  Visits u before after = (old : List (Label C)) → SweepOf K size net plan cost old before → SweepOf K size net plan cost old after × Falls K before after × VisitedOf K size net plan cost u old after

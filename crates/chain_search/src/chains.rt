@@ -2,11 +2,12 @@
 // label changed.
 ghost use Rattle.std.specs.Prelude.{◌≡◌, ℕ, suc, ◌<◌, ◌≤◌, length};
 ghost use Rattle.plans.specs.Plans.{stations as count_of};
-ghost use Rattle.chain_search.specs.Chains.{Chained, Threaded, link, links_at, put_back, put_forth, put_next, unlinked};
+ghost use Rattle.chain_search.specs.Chains.{Chained, SameChains, Threaded, link, put_back, put_forth, put_next};
 
 use network::Network;
+use plans::Direction;
 use records::Leg;
-use search::{Way, joined_leg};
+use steps::joined_leg;
 
 // Where chains go on: of a station, the last leg that starts there and the last that ends there; of
 // a leg, the one before it with the same start and the one before it with the same end.
@@ -17,51 +18,66 @@ pub struct Links {
 }
 
 impl Links {
-    // The leg that steps of one way lead on to.
-    pub(crate) fn by(self, way: Way) -> Option<u16>
-        ensures { result ≡ link way self }
+    // The leg that steps of one direction lead on to.
+    #[inline(always)]
+    pub(crate) fn by(self, direction: Direction) -> Option<u16>
+        ensures { result ≡ link direction self }
     {
-        match way {
-            Way::Along => self.forth,
-            Way::Against => self.back,
+        match direction {
+            Direction::Forth => self.forth,
+            Direction::Back => self.back,
         }
     }
 }
 
-// Puts a leg between stations at the head of its two chains.
-fn put_leg(number: usize, leg: Leg, heads: &mut [Links], nexts: &mut [Links])
-    requires { (number < 3000) × ((number < length nexts.old) × ((leg.start < length heads.old) × (leg.end < length heads.old))) }
-    ensures next { nexts.new ≡ put_next number leg heads.old nexts.old }
-    ensures heads { heads.new ≡ put_back number leg (put_forth number leg heads.old) }
-{
-    let start = usize::from(leg.start);
-    let end = usize::from(leg.end);
-    let link = Some(number as u16);
-    nexts[number] = Links {
-        forth: heads[start].forth,
-        back: heads[end].back,
-    };
-    heads[start].forth = link;
-    heads[end].back = link;
+// Chains in two lent slices: the links of each station, and those of each leg.
+#[derive(Drop)]
+pub struct Chains<'a> {
+    pub heads: &'a mut [Links],
+    pub nexts: &'a mut [Links],
 }
 
-// Puts a leg into the chains, if both its ends are stations.
-fn link_leg<N: Network>(net: &N, number: usize, heads: &mut [Links], nexts: &mut [Links])
-    requires { (number < 3000) × ((number < length nexts.old) × (count_of (N.Network.meaning net.now) ≤ length heads.old)) }
-    ensures { Chained (N.Network.meaning net.now) number heads.old nexts.old → Chained (N.Network.meaning net.now) (suc number) heads.new nexts.new }
-{
-    if let Some(leg) = joined_leg(net, number) {
-        put_leg(number, leg, heads, nexts);
+impl Chains<'_> {
+    // Puts a leg between stations at the head of its two chains.
+    fn put(&mut self, number: usize, leg: Leg)
+        requires { (number < 3000) × ((number < length self.old.nexts.now) × ((leg.start < length self.old.heads.now) × (leg.end < length self.old.heads.now))) }
+        ensures next { self.new.nexts.now ≡ put_next number leg self.old.heads.now self.old.nexts.now }
+        ensures heads { self.new.heads.now ≡ put_back number leg (put_forth number leg self.old.heads.now) }
+        ensures stay { SameChains self.old self.new }
+    {
+        let start = usize::from(leg.start);
+        let end = usize::from(leg.end);
+        // the cast loses nothing, by what is required, and there is no `From` of this kind
+        let link = Some(number as u16);
+        self.nexts[number] = Links {
+            forth: self.heads[start].forth,
+            back: self.heads[end].back,
+        };
+        self.heads[start].forth = link;
+        self.heads[end].back = link;
     }
-}
 
-// Builds the chains of all legs.
-pub(crate) fn link_legs<N: Network>(net: &N, heads: &mut [Links], nexts: &mut [Links])
-    requires { (count_of (N.Network.meaning net.now) ≤ length heads.old) × (length (N.Network.meaning net.now).legs ≤ length nexts.old) }
-    ensures { Threaded (N.Network.meaning net.now) heads.new nexts.new }
-{
-    heads.fill(Links::default());
-    for number in 0..net.legs() {
-        link_leg(net, number, heads, nexts);
+    // Puts a leg into the chains, if both its ends are stations.
+    fn link_leg<N: Network>(&mut self, net: &N, number: usize)
+        requires { (number < 3000) × ((number < length self.old.nexts.now) × (count_of (N.Network.meaning net.now) ≤ length self.old.heads.now)) }
+        ensures chained { Chained (N.Network.meaning net.now) number self.old.heads.now self.old.nexts.now → Chained (N.Network.meaning net.now) (suc number) self.new.heads.now self.new.nexts.now }
+        ensures stay { SameChains self.old self.new }
+    {
+        if let Some(leg) = joined_leg(net, number) {
+            self.put(number, leg);
+        }
+    }
+
+    // Builds the chains of all legs.
+    pub(crate) fn link<N: Network>(&mut self, net: &N)
+        requires { (count_of (N.Network.meaning net.now) ≤ length self.old.heads.now) × (length (N.Network.meaning net.now).legs ≤ length self.old.nexts.now) }
+        ensures threaded { Threaded (N.Network.meaning net.now) self.new.heads.now self.new.nexts.now }
+        ensures stay { SameChains self.old self.new }
+    {
+        self.heads.fill(Links::default());
+        // a range, since a network is asked by number: there is no slice to go through
+        for number in 0..net.legs() {
+            self.link_leg(net, number);
+        }
     }
 }

@@ -2,43 +2,45 @@
 // the legs at each station.
 #![tactic(auto)]
 
+ghost use Rattle.chain_search.specs.Chains.{SameChains};
 ghost use Rattle.chain_search.specs.Searches.{Searched};
 
 pub mod chains;
 mod walks;
 
-pub use chains::Links;
+pub use chains::{Chains, Links};
 use costs::Cost;
-use network::Network;
+use network::{Belongs, Network};
 use records::Refusal;
-pub use search::{Arrival, Label, Last, Outcome};
+pub use search::{Arrival, Label, Outcome};
 use search::{Residual, search_by};
-use steps::{Fees, Starts};
+use steps::Fees;
 use walks::ByChains;
 
 // The cheapest walk to every station, from the starting stations at zero, over the residual steps
 // of a plan at their fees. Amounts that the plan lacks count as 0. It writes a label for each
 // station, and says whether the labels are least totals or a round trip below zero can be reached.
-// The heads, one for each station, and the nexts, one for each leg, are for it to work in.
-pub fn search<N: Network, C: Cost, F: Fees<C>, S: Starts>(
-    net: &N,
-    plan: &[u16],
-    fees: &F,
+// The chains, with a head for each station and a next for each leg, are for it to work in.
+pub fn search<'a, N: Network, C: Cost, F: Fees<C>, S: Belongs>(
+    net: &'a N,
+    plan: &'a [u16],
+    fees: &'a F,
     starts: &S,
     labels: &mut [Label<C>],
-    heads: &mut [Links],
-    nexts: &mut [Links],
+    chains: &mut Chains<'_>,
 ) -> Result<Outcome, Refusal>
-    ensures { Searched C.Cost.group C.Cost.worth (N.Network.meaning net.now) plan.now (λ d k l x. C.Cost.worth (F.Fees.cost fees.now d k l x)) (S.Starts.starts starts.now) result labels.old labels.new heads.old heads.new nexts.old nexts.new }
+    ensures searched { Searched C.Grouped (N.Network.meaning net.now) plan.now (F.Fees.cost fees.now) (S.Belongs.belongs starts.now) result labels.old labels.new chains.old chains.new }
+    ensures stay { SameChains chains.old chains.new }
 {
     let stations = net.stations();
-    if labels.len() < stations || heads.len() < stations || nexts.len() < net.legs() {
+    if labels.len() < stations || chains.heads.len() < stations || chains.nexts.len() < net.legs() {
         return Err(Refusal::SliceTooShort);
     }
-    chains::link_legs(net, heads, nexts);
-    let residual = Residual { net, plan, fees };
+    chains.link(net);
+    let heads = &mut *chains.heads;
+    let nexts = &mut *chains.nexts;
     let sweep = ByChains {
-        residual,
+        residual: Residual { net, plan, fees },
         heads,
         nexts,
     };

@@ -2,17 +2,18 @@
 // lines are compared with the file `stdout`.
 #![tactic(auto)]
 
-use chain_search::Links;
+use chain_search::{Chains, Links};
 use costs::{Cents, Cost};
-use network::Network;
-use records::{Refusal, Station};
+use network::{Belongs, Network};
+use records::Refusal;
+use samples::worked::{STATIONS, T};
 use search::{Label, Outcome};
-use search_cases::{Searching, cases, print, worked};
+use search_cases::{Cases, Searching, print};
 use std::io;
-use steps::{Everywhere, Fees, InCents, Starts};
+use steps::{Everywhere, Fees, InCents};
 use table::Table;
 
-// Links that lead astray: a search does not read what it was lent.
+// Links that lead astray: a search does not read what it was lent. Crate `stray` has the same, but stands above planning.
 const STRAY: Links = Links {
     forth: Some(9),
     back: Some(65535),
@@ -22,7 +23,7 @@ const STRAY: Links = Links {
 struct OverChains;
 
 impl Searching for OverChains {
-    fn search<N: Network, C: Cost, F: Fees<C>, S: Starts>(
+    fn search<N: Network, C: Cost, F: Fees<C>, S: Belongs>(
         &self,
         net: &N,
         plan: &[u16],
@@ -32,9 +33,11 @@ impl Searching for OverChains {
     ) -> Result<Outcome, Refusal> {
         let mut heads = [STRAY; 5];
         let mut nexts = [STRAY; 5];
-        let heads = &mut heads[..net.stations().min(5)];
-        let nexts = &mut nexts[..net.legs().min(5)];
-        chain_search::search(net, plan, fees, starts, labels, heads, nexts)
+        let mut chains = Chains {
+            heads: &mut heads[..net.stations().min(5)],
+            nexts: &mut nexts[..net.legs().min(5)],
+        };
+        chain_search::search(net, plan, fees, starts, labels, &mut chains)
     }
 
     fn prices<N: Network>(
@@ -43,14 +46,16 @@ impl Searching for OverChains {
         plan: &[u16],
         labels: &mut [Label<Cents>],
         prices: &mut [i64],
-    ) -> Result<bool, Refusal> {
-        let mut heads = [STRAY; 5];
-        let mut nexts = [STRAY; 5];
-        chain_prices::prices(net, plan, labels, &mut heads, &mut nexts, prices)
+    ) -> Result<Outcome, Refusal> {
+        let mut chains = Chains {
+            heads: &mut [STRAY; 5],
+            nexts: &mut [STRAY; 5],
+        };
+        chain_prices::prices(net, plan, labels, &mut chains, prices)
     }
 }
 
-// Links, each as the one forth and the one back.
+// Links, each as the one forth and the one back: 0 where there is none.
 fn print_links(rt: &HostRuntime, links: &[Links]) -> io::Result<()> {
     for link in links {
         let forth = link.forth.unwrap_or(0);
@@ -62,8 +67,8 @@ fn print_links(rt: &HostRuntime, links: &[Links]) -> io::Result<()> {
 
 // Links that are too few are refused, with nothing altered.
 fn too_few_links(rt: &HostRuntime) -> io::Result<()> {
-    let mut legs = worked::legs();
-    let mut stations = [Station { balance: 0 }; 3];
+    let mut legs = T;
+    let mut stations = STATIONS;
     let table = Table {
         legs: &mut legs,
         stations: &mut stations,
@@ -71,25 +76,17 @@ fn too_few_links(rt: &HostRuntime) -> io::Result<()> {
     let mut labels = [Label::<Cents>::default(); 3];
     let mut few = [STRAY; 2];
     let mut enough = [STRAY; 3];
-    let answer = chain_search::search(
-        &table,
-        &[],
-        &InCents,
-        &Everywhere,
-        &mut labels,
-        &mut few,
-        &mut enough,
-    );
+    let mut chains = Chains {
+        heads: &mut few,
+        nexts: &mut enough,
+    };
+    let answer = chain_search::search(&table, &[], &InCents, &Everywhere, &mut labels, &mut chains);
     print::outcome(rt, "two heads", answer)?;
-    let answer = chain_search::search(
-        &table,
-        &[],
-        &InCents,
-        &Everywhere,
-        &mut labels,
-        &mut enough,
-        &mut few,
-    );
+    let mut chains = Chains {
+        heads: &mut enough,
+        nexts: &mut few,
+    };
+    let answer = chain_search::search(&table, &[], &InCents, &Everywhere, &mut labels, &mut chains);
     print::outcome(rt, "two nexts", answer)?;
     print::labels(rt, &labels)?;
     print_links(rt, &few)?;
@@ -97,7 +94,11 @@ fn too_few_links(rt: &HostRuntime) -> io::Result<()> {
 }
 
 fn main(rt: HostRuntime) -> io::Result<()> {
-    worked::all(&rt, &OverChains)?;
+    let cases = Cases {
+        rt: &rt,
+        way: &OverChains,
+    };
+    cases.worked()?;
     too_few_links(&rt)?;
-    cases::all(&rt, &OverChains)
+    cases.small()
 }

@@ -1,5 +1,7 @@
 -- From what the search says at cents, from every station, to prices.
-use Rattle.std.proofs.Common.{ℕ, ◌<◌, true, List, [], ℤ, pos, sym, refl, subst, inl, inr}
+use Rattle.std.proofs.Common.{◌≡◌, ℕ, ◌<◌, ◌≤◌, true, List, [], ◌++◌, length, take, drop, length-take, ℤ, pos, sym, refl, subst, ◌∙◌, inl, inr, arith}
+use Rattle.std.proofs.lemmas.Slice.{drop-append-drop}
+use Rattle.std.proofs.Math.ListN.{get_or-append}
 use Rattle.network.specs.Nets.{Net}
 use Rattle.theory.specs.Groups.{OrderedGroup, whole}
 use Rattle.theory.specs.Walks.{start, Way, rest, go, RoundTrip, Reached}
@@ -8,16 +10,16 @@ use Rattle.plans.specs.Plans.{stations}
 use Rattle.plans.specs.Residuals.{Step, CentsStep, step_cents}
 use Rattle.plans.specs.Prices.{Station, Price, CentsRoundTrip}
 use Rattle.plans.proofs.Pricing
-use Rattle.costs.specs.Kinds.{Cents}
+use Rattle.costs.specs.Kinds.{Cents, cents_kind}
 use Rattle.steps.specs.Fees.{paid, cents_worth}
 use Rattle.steps.proofs.Paying.{cents_same}
 use Rattle.search.specs.Labels.{label_at}
-use Rattle.search.specs.Searches.{Over, From, Settles, Answer}
+use Rattle.search.specs.Searches.{From, Settles, StepOf, OverOf}
 use Rattle.search.specs.declared.label.Label.{Label}
 use Rattle.search.specs.declared.outcome.Outcome.TheVariants.{Settled}
 use Rattle.search.proofs.Optional.{option_cases}
 use Rattle.search.proofs.Stepping.{ends}
-use Rattle.prices.specs.Priced.{cents_of, price_at, price_in, Writes, Prices, Written}
+use Rattle.prices.specs.Priced.{cents_fee, price_at, price_in, Writes, Prices, Found, Written}
 
 -- where walks start at the end of every step, every round trip below zero is reached
 module _ {A : Type 0} (G : OrderedGroup A) (F : ℕ → Type 0) (S : ℕ → ℕ → A → Type 0) (starts : (u v : ℕ) (c : A) → S u v c → F v) where
@@ -34,7 +36,7 @@ module _ (net : Net) (plan : List ℕ) where
   Everywhere = From net (λ _. true)
 
   abbrev Fee : ℕ → ℕ → ℤ → Type 0
-  Fee = Step net plan (paid cents_worth net plan)
+  Fee = StepOf cents_kind net plan cents_fee
 
   to_step : (u v : ℕ) (c : ℤ) → Fee u v c → CentsStep net plan u v c
   to_step u v c s = subst (λ cost. Step net plan cost u v c) (cents_same net plan) s
@@ -55,7 +57,7 @@ module _ (net : Net) (plan : List ℕ) where
   no_trip_of none t =
       none (trip_reached whole Everywhere Fee (λ u v c s. of_station v (ends net plan (paid cents_worth net plan) u v c s).1) (Walking.trip_map whole of_step t))
 
-  module _ (ls : List (Label Cents)) (z : Settles whole (λ (c : Cents). c.0) (stations net) Everywhere Fee (Over net plan (paid cents_worth net plan)) ls) where
+  module _ (ls : List (Label Cents)) (z : Settles cents_kind (stations net) Everywhere Fee (OverOf cents_kind net plan cents_fee) ls) where
     label_price : (v : ℕ) → v < stations net → Price net plan v (price_in (label_at ls v))
     label_price v h =
         elim (option_cases (label_at ls v).arrival) [
@@ -78,6 +80,15 @@ module _ (net : Net) (plan : List ℕ) where
                 Pricing.reduced net plan (no_trip_of z.no_trip) u v c (price_at after u) (price_at after v) s (written_price u e.0) (written_price v e.1);
           }
 
--- what an outcome stands for, and whether prices are written
-pub written : (net : Net) (plan : List ℕ) (ls : List (Label Cents)) (before after : List ℤ) → Answer whole cents_of net plan cents_worth (λ _. true) Settled ls → Writes (stations net) ls before after → Written net plan true before after
+-- the prices of the stations stand before the others
+pub writes_before : (n : ℕ) (ls : List (Label Cents)) (prices written : List ℤ) → n ≤ length prices → length written ≡ n → Writes (length (take n prices)) ls (take n prices) written
+    → Writes n ls prices (written ++ drop n prices)
+writes_before n ls prices written few long w =
+    record {
+      beyond = drop-append-drop n prices written n (omega arith) long;
+      each = λ v l. get_or-append written (drop n prices) (pos 0) v (omega arith) ∙ w.each v (omega (arith, long, length-take n prices));
+    }
+
+-- what an outcome stands for
+pub written : (net : Net) (plan : List ℕ) (ls : List (Label Cents)) (before after : List ℤ) → Found net plan Settled ls → Writes (stations net) ls before after → Written net plan Settled before after
 written net plan ls before after z w = (no_trip_of net plan z.no_trip, prices_of net plan ls z before after w, w.beyond)

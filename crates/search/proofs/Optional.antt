@@ -1,6 +1,7 @@
 -- Labels and worths that are there or absent.
-use Rattle.std.proofs.Common.{◌≡◌, ℕ, ◌<◌, Bool, true, false, ◌≢◌, ◌⊎◌, List, length, set, Some, None, Option, sym, refl, ◌∙◌, inl, inr, get_or-set_other, get_or-set_same}
+use Rattle.std.proofs.Common.{◌≡◌, ℕ, ◌<◌, Bool, true, false, ◌≢◌, ◌⊎◌, List, length, set, Some, None, Option, refl, inl, inr, get_or-set_other, get_or-set_same}
 use Rattle.std.proofs.lemmas.Option.{none-some, same_Some}
+use Rattle.theory.specs.declared.Grouped.{Ghosts as Kind}
 use Rattle.theory.specs.Groups.{OrderedGroup, cancel}
 use Rattle.theory.specs.Walks.{AtMost}
 use Rattle.search.specs.Labels.{label_at, held, lowest, fresh_of, unlabelled}
@@ -20,9 +21,6 @@ fresh_some true (Some y) t e = (refl, (y, refl, same_Some _ _ e))
 
 pub fresh_is : {C : Type 0} (b : Bool) (o : Option (Arrival C)) (y : Arrival C) → b ≡ true → o ≡ Some y → fresh_of b o ≡ Some y.total
 fresh_is b o y p q = rw (p, q) refl
-
-pub fresh_none : {C : Type 0} (b : Bool) (o : Option (Arrival C)) (y : Arrival C) → fresh_of b o ≡ None → b ≡ true → o ≡ Some y → ⊥
-fresh_none b o y e p q = let f : fresh_of b o ≡ Some y.total = rw (p, q) refl in none-some y.total (sym e ∙ f)
 
 -- ---- labels after a write
 pub label_same : {C : Type 0} (ls : List (Label C)) (v : ℕ) (l : Label C) → v < length ls → label_at (set ls v l) v ≡ l
@@ -44,15 +42,15 @@ module _ {A : Type 0} (G : OrderedGroup A) where
   undercut None x t n h = absurd h
   undercut (Some a) x t n h = G.le_trans _ _ _ (turned a x n) h
 
-  module _ {C : Type 0} (worth : C → A) where
-    pub held_at : (o : Option (Arrival C)) (t : A) → AtMost G (held worth o) t → (y : Arrival C) × (o ≡ Some y) × G.le (worth y.total) t
-    held_at None t h = absurd h
-    held_at (Some y) t h = (y, refl, h)
+module _ {C : Type 0} (K : Kind C) where
+  pub held_at : (o : Option (Arrival C)) (t : K.Member) → AtMost K.group (held K o) t → (y : Arrival C) × (o ≡ Some y) × K.group.le (K.worth y.total) t
+  held_at None t h = absurd h
+  held_at (Some y) t h = (y, refl, h)
 
-    pub held_is : (o : Option (Arrival C)) (y : Arrival C) (t : A) → o ≡ Some y → G.le (worth y.total) t → AtMost G (held worth o) t
-    held_is o y t e h = rw e h
+  pub held_is : (o : Option (Arrival C)) (y : Arrival C) (t : K.Member) → o ≡ Some y → K.group.le (K.worth y.total) t → AtMost K.group (held K o) t
+  held_is o y t e h = rw e h
 
-    -- what is found is lower than what is held
-    pub under_lowest : (b o : Option (Arrival C)) (y : Arrival C) (t : A) → o ≡ Some y → ((x : Arrival C) → b ≡ Some x → G.le (worth y.total) (worth x.total) → ⊥) → G.le (worth y.total) t → AtMost G (held worth (lowest b o)) t
-    under_lowest None o y t e low h = rw e h
-    under_lowest (Some x) o y t e low h = G.le_trans _ _ _ (turned _ _ (low x refl)) h
+  -- what is found is lower than what is held
+  pub under_lowest : (b o : Option (Arrival C)) (y : Arrival C) (t : K.Member) → o ≡ Some y → ((x : Arrival C) → b ≡ Some x → K.group.le (K.worth y.total) (K.worth x.total) → ⊥) → K.group.le (K.worth y.total) t → AtMost K.group (held K (lowest b o)) t
+  under_lowest None o y t e low h = rw e h
+  under_lowest (Some x) o y t e low h = K.group.le_trans _ _ _ (turned K.group _ _ (low x refl)) h

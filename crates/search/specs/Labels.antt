@@ -4,11 +4,12 @@
 --   held         the worth of an arrival, if there is one
 --   lowest       of two arrivals the first, if there is one
 --   best         the worth of what a label has found or holds
---   fresh        the total of a label that the round before changed
---   committed    a label at the end of a round
+--   fresh, fresh_of           the total of a label that the round before changed, and of its two parts
+--   committed, committed_by   a label at the end of a round, and of its two parts
+--   with_better  a label with what the round has found
 --   begun        a label before the first round
 use Rattle.std.specs.Prelude.{ℕ, Bool, true, false, List, Some, None, Option, slice_index_or}
-use Rattle.search.specs.declared.label.Last.TheVariants.{Start}
+use Rattle.theory.specs.declared.Grouped.{Ghosts as Kind}
 use Rattle.search.specs.declared.label.Arrival.{Arrival}
 use Rattle.search.specs.declared.label.Label.{Label}
 
@@ -18,16 +19,16 @@ unlabelled = record { arrival = None; better = None; changed = false }
 abbrev pub label_at : {C : Type 0} → List (Label C) → ℕ → Label C
 label_at ls v = slice_index_or ls v unlabelled
 
-abbrev pub held : {C A : Type 0} → (C → A) → Option (Arrival C) → Option A
-held worth None = None
-held worth (Some x) = Some (worth x.total)
+abbrev pub held : {C : Type 0} (K : Kind C) → Option (Arrival C) → Option K.Member
+held K None = None
+held K (Some x) = Some (K.worth x.total)
 
 abbrev pub lowest : {C : Type 0} → Option (Arrival C) → Option (Arrival C) → Option (Arrival C)
 lowest None o = o
 lowest (Some x) o = Some x
 
-abbrev pub best : {C A : Type 0} → (C → A) → Label C → Option A
-best worth l = held worth (lowest l.better l.arrival)
+abbrev pub best : {C : Type 0} (K : Kind C) → Label C → Option K.Member
+best K l = held K (lowest l.better l.arrival)
 
 -- of the mark and the arrival of a label
 abbrev pub fresh_of : {C : Type 0} → Bool → Option (Arrival C) → Option C
@@ -53,4 +54,4 @@ with_better l x = record { arrival = l.arrival; better = Some x; changed = l.cha
 -- by whether a walk may start there, and a zero
 abbrev pub begun : {C : Type 0} → Bool → C → Label C
 begun false z = unlabelled
-begun true z = record { arrival = Some (record { total = z; last = Start }); better = None; changed = true }
+begun true z = record { arrival = Some (record { total = z; last = None }); better = None; changed = true }

@@ -1,5 +1,5 @@
 pub mod Labels
 pub mod Searches
-pub mod Ways
 pub mod Sweeps
 pub mod Rounds
+pub mod Words

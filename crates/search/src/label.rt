@@ -1,45 +1,41 @@
 // What a search knows of each station, kept in a lent slice with one entry for each.
 ghost use Rattle.std.specs.Prelude.{◌≡◌, Decides};
 ghost use Rattle.theory.specs.Walks.{AtMost};
-ghost use Rattle.search.specs.Labels.{begun, best, committed, fresh, label_at, unlabelled};
+ghost use Rattle.search.specs.Labels.{begun, best, committed, fresh, label_at};
+ghost use Rattle.search.specs.Words.{arrival_text};
 
 use costs::Cost;
+use std::fmt;
+use steps::Step;
 
-// The last step of a walk: none yet, forth over a leg, or back over one.
-#[derive(Clone, Copy)]
-pub enum Last {
-    Start,
-    Forth { leg: usize },
-    Back { leg: usize },
-}
-
-// How a walk arrives: its total and its last step.
-#[derive(Clone, Copy)]
+// How a walk arrives: its total, and its last step, if it has gone any.
+#[derive(Clone, Copy, PartialEq, Eq, Debug)]
 pub struct Arrival<C> {
     pub total: C,
-    pub last: Last,
+    pub last: Option<Step>,
+}
+
+// `TOTAL, start` or `TOTAL, STEP`
+impl<C: fmt::Display> fmt::Display for Arrival<C> {
+    ghost output = { λ arrival. arrival_text (C.Display.output arrival.total) arrival.last };
+
+    fn fmt<W: fmt::Write>(&self, f: &mut fmt::Formatter<W>) -> fmt::Result {
+        match self.last {
+            None => write!(f, "{}, start", self.total),
+            Some(step) => write!(f, "{}, {step}", self.total),
+        }
+    }
 }
 
 // The best walk so far, what the current round has found beyond it, and whether the round before
-// changed the label.
-#[derive(Clone, Copy)]
+// changed the label. By default no walk is known.
+#[derive(Clone, Copy, PartialEq, Eq, Debug)]
+#[derive_where(Default)]
 pub struct Label<C> {
     pub arrival: Option<Arrival<C>>,
     pub better: Option<Arrival<C>>,
+    // no option of the arrival: a label that did not change still holds one
     pub changed: bool,
-}
-
-// No walk is known.
-impl<C> Default for Label<C> {
-    ghost is_default = { λ r. r ≡ unlabelled };
-
-    fn default() -> Label<C> {
-        Label {
-            arrival: None,
-            better: None,
-            changed: false,
-        }
-    }
 }
 
 impl<C: Cost> Label<C> {
@@ -54,7 +50,7 @@ impl<C: Cost> Label<C> {
 
     // Whether the label has found or holds a total that is no more than the given one.
     pub(crate) fn is_as_low(&self, total: C) -> bool
-        ensures { Decides result (AtMost C.Cost.group (best C.Cost.worth self.now) (C.Cost.worth total)) }
+        ensures { Decides result (AtMost C.Grouped.group (best C.Grouped self.now) (C.Grouped.worth total)) }
     {
         // `better.or(arrival)` takes 8 instructions more at every step of a round
         match self.better {
@@ -73,7 +69,7 @@ impl<C: Cost> Label<C> {
         Label {
             arrival: Some(Arrival {
                 total: zero,
-                last: Last::Start,
+                last: None,
             }),
             better: None,
             changed: true,

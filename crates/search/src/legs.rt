@@ -1,32 +1,37 @@
 // A round that goes over the legs by their numbers.
 ghost use Rattle.std.specs.Prelude.{◌≡◌, ◌≤◌, length};
-ghost use Rattle.plans.specs.Plans.{leg_at, stations as count_of};
+ghost use Rattle.plans.specs.Plans.{stations as count_of};
 ghost use Rattle.plans.specs.Residuals.{Joined};
+ghost use Rattle.steps.specs.Loads.{load_of};
 ghost use Rattle.search.specs.Sweeps.{Crosses, CrossesBy};
 
 use crate::label::{Label, fresh_at};
-use crate::relax::{Residual, Way, joined_leg};
+use crate::relax::Residual;
 use crate::sweeps::Sweep;
 use costs::Cost;
 use network::Network;
-use records::Leg;
-use steps::Fees;
+use plans::Direction;
+use steps::{Fees, Load, Step};
 
 // Every round looks at every leg.
 #[derive(Drop)]
 pub struct ByLegs<'a, N, F>(pub Residual<'a, N, F>);
 
 impl<N: Network, F> ByLegs<'_, N, F> {
-    // Relaxes the step of one way over a leg, if the round before changed the label where it begins.
-    fn relax_way<C: Cost>(&self, way: Way, number: usize, leg: Leg, labels: &mut [Label<C>])
+    // Relaxes the step of one direction over a leg, if the round before changed the label where it begins.
+    fn relax_by<C: Cost>(&self, direction: Direction, load: Load, labels: &mut [Label<C>])
     where
         F: Fees<C>,
-        requires { (count_of (N.Network.meaning self.now.0.net.now) ≤ length labels.old) × ((Joined (N.Network.meaning self.now.0.net.now) number) × (leg_at (N.Network.meaning self.now.0.net.now) number ≡ leg)) }
-        ensures { CrossesBy C.Cost.group C.Cost.worth C.Cost.size (λ d k l x. C.Cost.worth (F.Fees.cost self.now.0.fees.now d k l x)) (N.Network.meaning self.now.0.net.now) self.now.0.plan.now way number labels.old labels.new }
+        requires { (count_of (N.Network.meaning self.now.0.net.now) ≤ length labels.old) × ((Joined (N.Network.meaning self.now.0.net.now) load.number) × (load ≡ load_of (N.Network.meaning self.now.0.net.now) self.now.0.plan.now load.number)) }
+        ensures { CrossesBy C.Grouped C.Cost.size (N.Network.meaning self.now.0.net.now) self.now.0.plan.now (F.Fees.cost self.now.0.fees.now) direction load.number labels.old labels.new }
     {
-        let station = usize::from(way.near(leg));
+        let station = usize::from(load.tail(direction));
         if let Some(total) = fresh_at(labels, station) {
-            self.0.relax(way, number, total, labels);
+            let step = Step {
+                direction,
+                leg: load.number,
+            };
+            self.0.relax(step, total, labels);
         }
     }
 
@@ -35,13 +40,13 @@ impl<N: Network, F> ByLegs<'_, N, F> {
     where
         F: Fees<C>,
         requires { count_of (N.Network.meaning self.now.0.net.now) ≤ length labels.old }
-        ensures { Crosses C.Cost.group C.Cost.worth C.Cost.size (λ d k l x. C.Cost.worth (F.Fees.cost self.now.0.fees.now d k l x)) (N.Network.meaning self.now.0.net.now) self.now.0.plan.now number labels.old labels.new }
+        ensures { Crosses C.Grouped C.Cost.size (N.Network.meaning self.now.0.net.now) self.now.0.plan.now (F.Fees.cost self.now.0.fees.now) number labels.old labels.new }
     {
-        let Some(leg) = joined_leg(self.0.net, number) else {
+        let Some(load) = Load::joined(self.0.net, self.0.plan, number) else {
             return;
         };
-        self.relax_way(Way::Along, number, leg, labels);
-        self.relax_way(Way::Against, number, leg, labels);
+        self.relax_by(Direction::Forth, load, labels);
+        self.relax_by(Direction::Back, load, labels);
     }
 }
 
@@ -50,7 +55,7 @@ impl<C: Cost, N: Network, F: Fees<C>> Sweep<C> for ByLegs<'_, N, F> {
 
     ghost plan = { λ s. s.0.plan.now };
 
-    ghost cost = { λ s d k l x. F.Fees.cost s.0.fees.now d k l x };
+    ghost cost = { λ s. F.Fees.cost s.0.fees.now };
 
     ghost limits = { λ s. N.Network.limits s.0.net.now };
 
@@ -62,6 +67,7 @@ impl<C: Cost, N: Network, F: Fees<C>> Sweep<C> for ByLegs<'_, N, F> {
         if labels.len() < self.0.net.stations() {
             return;
         }
+        // a range, since a network is asked by number: there is no slice to go through
         for number in 0..self.0.net.legs() {
             self.relax_leg(number, labels);
         }

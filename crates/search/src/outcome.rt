@@ -1,4 +1,8 @@
 // How a search ends.
+ghost use Rattle.std.specs.Prelude.{Some};
+ghost use Rattle.search.specs.Words.{outcome_words};
+
+use std::fmt;
 
 #[derive(Clone, Copy, PartialEq, Eq, Debug)]
 pub enum Outcome {
@@ -6,4 +10,16 @@ pub enum Outcome {
     Settled,
     // a round trip that totals below zero can be reached from a start
     RoundTrip,
+}
+
+// `settled`, or `a round trip below zero`
+impl fmt::Display for Outcome {
+    ghost output = { λ outcome. Some (outcome_words outcome) };
+
+    fn fmt<W: fmt::Write>(&self, f: &mut fmt::Formatter<W>) -> fmt::Result {
+        f.write_str(match self {
+            Outcome::Settled => "settled",
+            Outcome::RoundTrip => "a round trip below zero",
+        })
+    }
 }

@@ -1,9 +1,9 @@
 // Small searches over any way of searching, and what they print.
 #![tactic(auto)]
 
-pub mod cases;
+mod cases;
 pub mod print;
 pub mod searching;
-pub mod worked;
+mod worked;
 
-pub use searching::Searching;
+pub use searching::{Cases, Searching};

@@ -3,18 +3,18 @@
 #![tactic(auto)]
 
 use costs::{Cents, Cost};
-use network::Network;
+use network::{Belongs, Network};
 use records::Refusal;
 use search::{Label, Outcome};
-use search_cases::{Searching, cases, worked};
+use search_cases::{Cases, Searching};
 use std::io;
-use steps::{Fees, Starts};
+use steps::Fees;
 
 // The search by the legs' numbers.
 struct ByNumber;
 
 impl Searching for ByNumber {
-    fn search<N: Network, C: Cost, F: Fees<C>, S: Starts>(
+    fn search<N: Network, C: Cost, F: Fees<C>, S: Belongs>(
         &self,
         net: &N,
         plan: &[u16],
@@ -31,12 +31,16 @@ impl Searching for ByNumber {
         plan: &[u16],
         labels: &mut [Label<Cents>],
         prices: &mut [i64],
-    ) -> Result<bool, Refusal> {
+    ) -> Result<Outcome, Refusal> {
         prices::prices(net, plan, labels, prices)
     }
 }
 
 fn main(rt: HostRuntime) -> io::Result<()> {
-    worked::all(&rt, &ByNumber)?;
-    cases::all(&rt, &ByNumber)
+    let cases = Cases {
+        rt: &rt,
+        way: &ByNumber,
+    };
+    cases.worked()?;
+    cases.small()
 }

@@ -4,4 +4,4 @@ use Rattle.search.proofs.rounds.begin.Given as goal
 
 -- the labels below are written
 abbrev pub invariant-loop-station : goal.invariant-loop-station
-invariant-loop-station g l = (v : ℕ) → v < l.station → label_at l.label-items v ≡ begun (g.S.Starts.starts l.starts v) l.zero
+invariant-loop-station g l = (v : ℕ) → v < l.station → label_at l.labels v ≡ begun (g.S.Belongs.belongs l.starts v) l.zero

@@ -1,14 +1,11 @@
-use Rattle.std.proofs.Common.{◌≡◌, ℕ, ◌-◌, ◌≤◌, Bool, drop}
+use Rattle.std.proofs.Common.{◌≡◌, ℕ, Bool}
+use Rattle.std.specs.Prelude.{max}
 use Rattle.plans.specs.Plans.{stations}
-use Rattle.search.specs.Rounds.{AfterOf}
+use Rattle.search.proofs.Stepping.{SoFar}
 use Rattle.search.proofs.rounds.rounds.Given as goal
 
--- one round less than the counter has ended
+-- as many rounds as counted have changed a label
 abbrev pub invariant-loop-round : goal.invariant-loop-round
 invariant-loop-round g l =
-    (l._round-end ≡ stations (g.W.Sweep.net l.sweep))
-    × (l._round ≤ 240)
-    × ((f : ℕ → Bool)
-    → AfterOf g.C.Cost.group g.C.Cost.worth g.C.Cost.size (g.W.Sweep.net l.sweep) (g.W.Sweep.plan l.sweep) (λ d k e x. g.C.Cost.worth (g.W.Sweep.cost l.sweep d k e x)) f 0 l.initial.labels
-    → AfterOf g.C.Cost.group g.C.Cost.worth g.C.Cost.size (g.W.Sweep.net l.sweep) (g.W.Sweep.plan l.sweep) (λ d k e x. g.C.Cost.worth (g.W.Sweep.cost l.sweep d k e x)) f (l._round - 1) l.labels
-    × (drop (stations (g.W.Sweep.net l.sweep)) l.labels ≡ drop (stations (g.W.Sweep.net l.sweep)) l.initial.labels))
+    (l._round-end ≡ max (stations (g.W.Sweep.net l.sweep)) 1)
+    × ((f : ℕ → Bool) → SoFar g.C.Grouped g.C.Cost.size (g.W.Sweep.net l.sweep) (g.W.Sweep.plan l.sweep) (g.W.Sweep.cost l.sweep) f l._round l.initial.labels l.labels)

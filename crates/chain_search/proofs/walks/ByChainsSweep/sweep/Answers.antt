@@ -6,11 +6,11 @@ use Rattle.chain_search.proofs.walks.ByChainsSweep.sweep.Goals as goal
 
 pub loop-station-preserved : goal.loop-station-preserved
 loop-station-preserved g c =
-    sweeps_more g.C.Cost.group g.C.Cost.worth g.C.Cost.size (λ d k l x. g.C.Cost.worth (g.F.Fees.cost c.args.self.now.residual.fees.now d k l x)) (g.N.Network.meaning c.args.self.now.residual.net.now) c.args.self.now.residual.plan.now
+    sweeps_more g.C.Grouped g.C.Cost.size (g.N.Network.meaning c.args.self.now.residual.net.now) c.args.self.now.residual.plan.now (g.F.Fees.cost c.args.self.now.residual.fees.now)
     c.loop-station.station c.args.labels.now c.loop-station.labels c.visit.new.labels c.loop-station.invariant c.visit.ensures
 
 pub returns : goal.returns
 returns g c long =
     let net = g.N.Network.meaning c.args.self.now.residual.net.now in
     let e : c.loop-station.station ≡ stations net = omega (arith, c.stations-stations.ensures) in
-    subst (λ i. Sweeps g.C.Cost.group g.C.Cost.worth g.C.Cost.size (λ d k l x. g.C.Cost.worth (g.F.Fees.cost c.args.self.now.residual.fees.now d k l x)) net c.args.self.now.residual.plan.now i c.args.labels.now c.loop-station.labels) e c.loop-station.invariant
+    subst (λ i. Sweeps g.C.Grouped g.C.Cost.size net c.args.self.now.residual.plan.now (g.F.Fees.cost c.args.self.now.residual.fees.now) i c.args.labels.now c.loop-station.labels) e c.loop-station.invariant

@@ -6,4 +6,4 @@ use Rattle.search.proofs.legs.ByLegsSweep.sweep.Given as goal
 abbrev pub invariant-loop-number : goal.invariant-loop-number
 invariant-loop-number g l =
     (l.number-end ≡ length (g.N.Network.meaning l.self.0.net.now).legs)
-    × Passes g.C.Cost.group g.C.Cost.worth g.C.Cost.size (λ d k e x. g.C.Cost.worth (g.F.Fees.cost l.self.0.fees.now d k e x)) (g.N.Network.meaning l.self.0.net.now) l.self.0.plan.now l.number l.initial.labels l.labels
+    × Passes g.C.Grouped g.C.Cost.size (g.N.Network.meaning l.self.0.net.now) l.self.0.plan.now (g.F.Fees.cost l.self.0.fees.now) l.number l.initial.labels l.labels

@@ -1,25 +1,23 @@
-use Rattle.std.proofs.Common.{◌≡◌, ◌<◌, length, sym, ap, subst, arith}
-use Rattle.records.specs.Cleared.{cleared_leg}
-use Rattle.std.proofs.lemmas.Option.{get_or_from_slice_get}
-use Rattle.plans.specs.Plans.{leg_at}
-use Rattle.search.specs.Sweeps.{Relaxes}
-use Rattle.search.proofs.Sweeping.{leg_relaxed}
+use Rattle.std.proofs.Common.{◌≡◌, ◌<◌, length, Some, ap, ◌∙◌, subst, arith}
+use Rattle.plans.specs.Residuals.{head, residual}
+use Rattle.steps.specs.declared.load.Load.{Load}
+use Rattle.steps.specs.Loads.{load_of}
+use Rattle.search.specs.Sweeps.{Offered}
+use Rattle.search.proofs.Sweeping.{head_below, step_offered}
 use Rattle.search.proofs.relax.Residual.relax.Goals as goal
 
-pub returns-in-Along : goal.returns-in-Along
-returns-in-Along g c joined long =
+pub returns : goal.returns
+returns g c joined long =
     let net = g.N.Network.meaning c.args.self.now.net.now in
-    let e : leg_at net c.args.number ≡ c.in-Some.leg = get_or_from_slice_get net.legs c.args.number c.in-Some.leg cleared_leg (sym c.in-Some.ensures) in
-    let inside : c.in-Some.leg.end < length c.args.labels.now = omega (arith, joined.end_below, ap (λ l. l.end) e) in
-    leg_relaxed g.C.Cost.group g.C.Cost.worth g.C.Cost.size (λ d k l x. g.C.Cost.worth (g.F.Fees.cost c.args.self.now.fees.now d k l x)) net c.args.self.now.plan.now c.args.way c.args.number c.in-Some.leg c.amount_at-amount.result c.args.total
-    c.args.labels.now c.relax_forth.new.labels joined e (sym c.amount_at-amount.ensures)
-    (subst (λ w. Relaxes g.C.Cost.group g.C.Cost.worth g.C.Cost.size (λ d k l x. g.C.Cost.worth (g.F.Fees.cost c.args.self.now.fees.now d k l x)) w c.args.number c.in-Some.leg c.amount_at-amount.result c.args.total c.args.labels.now c.relax_forth.new.labels) (sym c.in-Along.is) (c.relax_forth.ensures inside))
-
-pub returns-in-Against : goal.returns-in-Against
-returns-in-Against g c joined long =
-    let net = g.N.Network.meaning c.args.self.now.net.now in
-    let e : leg_at net c.args.number ≡ c.in-Some.leg = get_or_from_slice_get net.legs c.args.number c.in-Some.leg cleared_leg (sym c.in-Some.ensures) in
-    let inside : c.in-Some.leg.start < length c.args.labels.now = omega (arith, joined.start_below, ap (λ l. l.start) e) in
-    leg_relaxed g.C.Cost.group g.C.Cost.worth g.C.Cost.size (λ d k l x. g.C.Cost.worth (g.F.Fees.cost c.args.self.now.fees.now d k l x)) net c.args.self.now.plan.now c.args.way c.args.number c.in-Some.leg c.amount_at-amount.result c.args.total
-    c.args.labels.now c.relax_back.new.labels joined e (sym c.amount_at-amount.ensures)
-    (subst (λ w. Relaxes g.C.Cost.group g.C.Cost.worth g.C.Cost.size (λ d k l x. g.C.Cost.worth (g.F.Fees.cost c.args.self.now.fees.now d k l x)) w c.args.number c.in-Some.leg c.amount_at-amount.result c.args.total c.args.labels.now c.relax_back.new.labels) (sym c.in-Against.is) (c.relax_back.ensures inside))
+    let plan = c.args.self.now.plan.now in
+    let s = c.args.step in
+    let e : c.in-Some.load ≡ load_of net plan s.leg = c.in-Some.ensures.1 in
+    let takes : 0 < residual s.direction c.in-Some.load.leg c.in-Some.load.amount = omega (arith, c.residual.ensures, c.if-residual-eq0.false) in
+    let at : c.from.result ≡ head s.direction c.in-Some.load.leg = c.from.ensures ∙ c.head.ensures in
+    let place : c.from.result ≡ head s.direction (load_of net plan s.leg).leg = at ∙ ap (λ (l : Load). head s.direction l.leg) e in
+    let inside : c.from.result < length c.args.labels.now = omega (arith, head_below net s.direction s.leg joined, place) in
+    step_offered g.C.Grouped g.C.Cost.size net plan (g.F.Fees.cost c.args.self.now.fees.now) s c.args.total c.fee.result c.sum.result c.args.labels.now c.offer.new.labels joined long
+    (subst (λ (l : Load). 0 < residual s.direction l.leg l.amount) e takes)
+    (c.fee.ensures.0 ∙ ap (λ l. g.C.Grouped.worth (g.F.Fees.cost c.args.self.now.fees.now s.direction l)) e)
+    c.fee.ensures.1 c.sum.ensures.exact
+    (subst (λ v. Offered g.C.Grouped c.args.labels.now c.offer.new.labels v (record { total = c.sum.result; last = Some s })) place (c.offer.ensures inside))
