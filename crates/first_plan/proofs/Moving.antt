@@ -10,15 +10,19 @@ use Rattle.std.proofs.lemmas.Bool.Decides.{nat_tests}
 use Rattle.records.specs.declared.leg.Leg.{Leg}
 use Rattle.network.specs.Nets.{Net, Within}
 use Rattle.theory.specs.Trails.{here}
+use Rattle.plans.specs.declared.direction.Direction.TheVariants.{Forth}
 use Rattle.plans.specs.Plans.{sum_below, stations, leg_at, amount, balance_at, in_force, Fits}
 use Rattle.plans.specs.Cuts.{left_over}
-use Rattle.certificates.specs.Pushes.{more, Sent}
+use Rattle.certificates.specs.Pushes.{shifted, Sent}
 use Rattle.certificates.specs.Starts.{first_amount}
 use Rattle.certificates.specs.Totals.{over}
-use Rattle.certificates.proofs.Moved.{forth_sent}
+use Rattle.certificates.proofs.Moved.{sent_along}
+use Rattle.plans.proofs.Sums.{sum_same}
+use Rattle.draft.specs.declared.Draft.{Draft}
+use Rattle.draft.specs.Drafts.{handed}
+use Rattle.draft.proofs.Handing.{handed_at, length_handed}
 use Rattle.first_plan.specs.Begins.{Begun}
-use Rattle.first_plan.specs.Laid.{Near, Written, handed, Laid}
-use Rattle.first_plan.proofs.Handing.{length_handed, handed_at, here_most}
+use Rattle.first_plan.specs.Laid.{Near, Written, Laid}
 
 -- ---- a plan of zeros leaves the balances over
 none_there : (t : Bool) (x : ℕ) → x ≡ 0 → cond t x 0 ≡ 0
@@ -56,24 +60,35 @@ laid_none net standing plan left e l w =
       near = λ v k. let n = w.near v (omega (arith, l)) in (omega (arith, ints, n.0), omega (arith, ints, n.1));
     }
 
+pub laid_at : {net : Net} {standing : List ℕ} {k : ℕ} {plan plan' : List ℕ} {left left' : List ℤ} → plan' ≡ plan → left' ≡ left → Laid net standing k plan left → Laid net standing k plan' left'
+laid_at p q d = rw (p, q) d
+
 -- ---- one leg more
 first_within : (l : Leg) (s : ℕ) → first_amount l s ≤ in_force l
 first_within l s = grind (arith, nat_tests)
 
 sent_on : (net : Net) (plan : List ℕ) (k b : ℕ) → Fits net plan → k < length net.legs → amount plan k ≡ 0 → b ≤ in_force (leg_at net k) → Sent net plan (set plan k b) b (leg_at net k).start (leg_at net k).end
 sent_on net plan k b f h z i =
-    let same : more plan k b ≡ set plan k b = ap (set plan k) (omega (arith, z)) in
-    subst (λ after. Sent net plan after b (leg_at net k).start (leg_at net k).end) same (forth_sent net plan k b f h (omega (arith, z)))
+    let same : shifted Forth plan k b ≡ set plan k b = ap (set plan k) (omega (arith, z)) in
+    subst (λ after. Sent net plan after b (leg_at net k).start (leg_at net k).end) same (sent_along Forth net plan k b f h (omega (arith, z)))
 
-pub laid_more : (net : Net) (standing : List ℕ) (k b s : ℕ) (l : Leg) (plan : List ℕ) (left after : List ℤ) → Laid net standing k plan left → k < length net.legs → leg_at net k ≡ l → s ≡ amount standing k → b ≡ first_amount l s → b ≤ 65535
+here_most : (t : Bool) (b : ℕ) → cond t b 0 ≤ b
+here_most true b = omega arith
+here_most false b = omega arith
+
+pub laid_more : (net : Net) (standing : List ℕ) (k b s : ℕ) (l : Leg) (plan : List ℕ) (left after : List ℤ) → Within net → Laid net standing k plan left → k < length net.legs → leg_at net k ≡ l → s ≡ amount standing k → b ≡ first_amount l s → b ≤ 65535
     → after ≡ handed l.start l.end b left → Laid net standing (k + 1) (set plan k b) after
-laid_more net standing k b s l plan left after d h q a e small given =
+laid_more net standing k b s l plan left after lim d h q a e small given =
     let u = (leg_at net k).start in
     let v = (leg_at net k).end in
     let at : b ≡ first_amount (leg_at net k) (amount standing k) = e ∙ ap (first_amount l) a ∙ ap (λ (x : Leg). first_amount x (amount standing k)) (sym q) in
     let after_is : after ≡ handed u v b left = given ∙ ap (λ (x : Leg). handed x.start x.end b left) (sym q) in
     let sent = sent_on net plan k b d.fits h (d.empty k (omega arith) h) (omega (arith, at, first_within (leg_at net k) (amount standing k))) in
-    let moved : (w : ℕ) → w < stations net → get_or after w (pos 0) ≡ (get_or left w (pos 0) -ℤ pos (here b u w)) +ℤ pos (here b v w) = λ w i. rw after_is (handed_at u v b left w (omega (arith, d.long))) in
+    let moved : (w : ℕ) → w < stations net → get_or after w (pos 0) ≡ (get_or left w (pos 0) -ℤ pos (here b u w)) +ℤ pos (here b v w) = λ w i.
+    let n = d.near w i in
+    let p = here_most (eqb u w) b in
+    let l : w < length left = omega (arith, d.long) in
+    rw after_is (handed_at u v b left w (λ _. (l, omega (arith, ints, n.0, n.1, lim.few_legs))) (λ _. (l, omega (arith, ints, n.0, n.1, p, lim.few_legs)))) in
     record {
       long = ap length after_is ∙ length_handed u v b left ∙ d.long;
       fits = sent.fits;
@@ -85,8 +100,8 @@ laid_more net standing k b s l plan left after d h q a e small given =
       over = λ w i. moved w i ∙ ap (λ z. (z -ℤ pos (here b u w)) +ℤ pos (here b v w)) (d.over w i) ∙ sym (sent.moved w);
       near = λ w i.
           let e = moved w i in
-          let p = here_most b u w in
-          let q = here_most b v w in
+          let p = here_most (eqb u w) b in
+          let q = here_most (eqb v w) b in
           let r = d.near w i in
           (omega (arith, ints, r.0, e, p, q), omega (arith, ints, r.1, e, p, q));
     }
@@ -113,21 +128,17 @@ sum_front left (suc n) h = let e = sum_by_more over left n (pos 0) (omega arith)
 sum_places : (left : List ℤ) (n : ℕ) → length left ≡ n → sum_by over left ≡ sum_below n (λ v. over (get_or left v (pos 0)))
 sum_places left n e = ap (sum_by over) (sym (take_all n left (omega (arith, e)))) ∙ sum_front left n (omega (arith, e))
 
-sum_same : (n : ℕ) (f g : ℕ → ℕ) → ((v : ℕ) → v < n → f v ≡ g v) → sum_below n f ≡ sum_below n g
-sum_same zero f g h = refl
-sum_same (suc n) f g h = omega (arith, sum_same n f g (λ v l. h v (omega arith)), h n (omega arith))
-
--- the slices before the first plan was written into their fronts, and after it
-pub begun : (net : Net) (standing old plan after : List ℕ) (before left left' : List ℤ) (total : ℕ) → Laid net standing (length net.legs) plan left → after ≡ plan ++ drop (length net.legs) old → left' ≡ left ++ drop (stations net) before
-    → total ≡ sum_by over left → Begun net standing old after before left' total
-begun net standing old plan after before left left' total d p q e =
+-- a draft before the first plan was written into its front, and after it
+pub begun : (net : Net) (standing plan : List ℕ) (left : List ℤ) (before after : Draft) (total : ℕ) → Laid net standing (length net.legs) plan left
+    → after.amounts.now ≡ plan ++ drop (length net.legs) before.amounts.now → after.left.now ≡ left ++ drop (stations net) before.left.now → total ≡ sum_by over left → Begun net standing before after total
+begun net standing plan left before after total d p q e =
     let m = length net.legs in
     let n = stations net in
-    let whole : take m after ≡ plan = rw p (take-append-le m plan (drop m old) (omega (arith, d.fits.one_each)) ∙ take_all m plan (omega (arith, d.fits.one_each))) in
+    let old = before.amounts.now in
+    let whole : take m after.amounts.now ≡ plan = rw p (take-append-le m plan (drop m old) (omega (arith, d.fits.one_each)) ∙ take_all m plan (omega (arith, d.fits.one_each))) in
     record {
       first = rw whole (record { one_each = d.fits.one_each; each = d.carried });
-      plan_stays = rw p (drop-append-drop m old plan m (omega arith) d.fits.one_each);
-      left_each = λ v h. rw (whole, q) (get_or-append left (drop n before) (pos 0) v (omega (arith, d.long)) ∙ d.over v h);
-      left_stays = rw q (drop-append-drop n before left n (omega arith) d.long);
+      beyond = record { amounts = rw p (drop-append-drop m old plan m (omega arith) d.fits.one_each); left = rw q (drop-append-drop n before.left.now left n (omega arith) d.long) };
+      left_each = λ v h. rw (whole, q) (get_or-append left (drop n before.left.now) (pos 0) v (omega (arith, d.long)) ∙ d.over v h);
       over_all = rw whole (e ∙ sum_places left n d.long ∙ sum_same n _ _ (λ v h. ap over (d.over v h)));
     }

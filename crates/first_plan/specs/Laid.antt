@@ -1,9 +1,8 @@
 -- How far the plan to begin with is laid.
 --   Near      an integer no further from 0 than that
---   handed    what is left over after bikes went from one station to another
 --   Written   what is left over where nothing is carried
 --   Laid      the legs below k carry what they carry to begin with, the others nothing
-use Rattle.std.specs.Prelude.{◌≡◌, ℕ, ◌+◌, ◌*◌, ◌<◌, ◌≤◌, List, length, ℤ, pos, ◌+ℤ◌, ◌-ℤ◌, neg_ℤ, ◌≤ℤ◌, slice_index_or, slice_set}
+use Rattle.std.specs.Prelude.{◌≡◌, ℕ, ◌+◌, ◌*◌, ◌<◌, ◌≤◌, List, length, ℤ, pos, neg_ℤ, ◌≤ℤ◌, slice_index_or}
 use Rattle.network.specs.Nets.{Net}
 use Rattle.plans.specs.Plans.{stations, leg_at, amount, balance_at, Fits}
 use Rattle.plans.specs.Cuts.{left_over}
@@ -11,11 +10,6 @@ use Rattle.certificates.specs.Starts.{first_amount}
 
 abbrev pub Near : ℕ → ℤ → Type 0
 Near b z = (neg_ℤ (pos b) ≤ℤ z) × (z ≤ℤ pos b)
-
--- at a number beyond the list nothing changes
-abbrev pub handed : ℕ → ℕ → ℕ → List ℤ → List ℤ
-handed u v b xs =
-    slice_set (slice_set xs u (slice_index_or xs u (pos 0) -ℤ pos b)) v (slice_index_or (slice_set xs u (slice_index_or xs u (pos 0) -ℤ pos b)) v (pos 0) +ℤ pos b)
 
 -- the balances, each within the numbers of 32 bits
 pub record Written (net : Net) (left : List ℤ) : Type 0 where

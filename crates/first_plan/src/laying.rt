@@ -1,19 +1,22 @@
 // The plan to begin with, leg by leg.
-ghost use Rattle.std.specs.Prelude.{◌≡◌, ℕ, ◌+◌, ◌^◌, ◌<◌, length, pos, slice_index_or, sum_by};
+ghost use Rattle.std.specs.Prelude.{◌≡◌, ◌+◌, ◌^◌, ◌<◌, length, sum_by};
+ghost use Rattle.plans.specs.Plans.{stations};
 ghost use Rattle.certificates.specs.Starts.{first_amount};
 ghost use Rattle.certificates.specs.Totals.{over};
-ghost use Rattle.first_plan.specs.Laid.{Laid, Near, Written, handed};
+ghost use Rattle.draft.specs.Drafts.{SameDraft};
+ghost use Rattle.first_plan.specs.Laid.{Laid, Written};
 
-use network::Network;
+use draft::Draft;
+use network::{Network, balance_of};
 use records::Leg;
 use steps::{amount_at, in_force};
 
 // Writes the balances: what is left over where nothing is carried. A balance that is missing counts as 0.
-pub(crate) fn write_balances<N: Network>(net: &N, left: &mut [i64])
+fn write_balances<N: Network>(net: &N, left: &mut [i64])
     ensures { Written (N.Network.meaning net.now) left.new }
 {
     for (station, entry) in left.iter_mut().enumerate() {
-        *entry = i64::from(net.balance(station).unwrap_or(0));
+        *entry = i64::from(balance_of(net, station));
     }
 }
 
@@ -28,41 +31,47 @@ fn first_amount(leg: Leg, standing: u16) -> u16
     }
 }
 
-// Bikes go from one station to another; at a number that is no station nothing changes.
-fn hand_over(left: &mut [i64], from: usize, into: usize, bikes: u16)
-    requires { (v : ℕ) → v < length left.old → Near 1099511627776 (slice_index_or left.old v (pos 0)) }
-    ensures { left.new ≡ handed from into bikes left.old }
-{
-    if from < left.len() {
-        left[from] -= i64::from(bikes);
-    }
-    if into < left.len() {
-        left[into] += i64::from(bikes);
-    }
-}
-
-// Has one leg carry what it carries to begin with.
-fn carry<N: Network>(net: &N, standing: &[u16], number: usize, plan: &mut [u16], left: &mut [i64])
+// Has one leg carry what it carries to begin with. The network and the standing amounts stand apart in these three: a struct of the
+// two would be made for one call.
+fn carry<N: Network>(net: &N, standing: &[u16], number: usize, draft: &mut Draft<'_>)
     requires there { number < length (N.Network.meaning net.now).legs }
-    requires laid { Laid (N.Network.meaning net.now) standing.now number plan.old left.old }
-    ensures { Laid (N.Network.meaning net.now) standing.now (number + 1) plan.new left.new }
+    requires laid { Laid (N.Network.meaning net.now) standing.now number draft.old.amounts.now draft.old.left.now }
+    ensures laid { Laid (N.Network.meaning net.now) standing.now (number + 1) draft.new.amounts.now draft.new.left.now }
+    ensures stay { SameDraft draft.old draft.new }
 {
     let Some(leg) = net.leg(number) else {
         return;
     };
     let bikes = first_amount(leg, amount_at(standing, number));
-    plan[number] = bikes;
-    hand_over(left, usize::from(leg.start), usize::from(leg.end), bikes);
+    draft.amounts[number] = bikes;
+    draft.hand_over(usize::from(leg.start), usize::from(leg.end), bikes);
 }
 
 // Has every leg carry what it carries to begin with.
-pub(crate) fn carry_all<N: Network>(net: &N, standing: &[u16], plan: &mut [u16], left: &mut [i64])
-    requires { Laid (N.Network.meaning net.now) standing.now 0 plan.old left.old }
+fn carry_all<N: Network>(net: &N, standing: &[u16], draft: &mut Draft<'_>)
+    requires { Laid (N.Network.meaning net.now) standing.now 0 draft.old.amounts.now draft.old.left.now }
+    ensures laid { Laid (N.Network.meaning net.now) standing.now (length (N.Network.meaning net.now).legs) draft.new.amounts.now draft.new.left.now }
+    ensures stay { SameDraft draft.old draft.new }
+{
+    // a range, since a network is asked by number: there is no slice to go through
+    for number in 0..net.legs() {
+        carry(net, standing, number, draft);
+    }
+}
+
+// Writes the plan and what it leaves over into slices with one entry for each leg and each station. Slices and no draft: where a
+// draft of parts of another draft's slices is made, there is no proof.
+pub(crate) fn lay<N: Network>(net: &N, standing: &[u16], plan: &mut [u16], left: &mut [i64])
+    requires { (length plan.old ≡ length (N.Network.meaning net.now).legs) × (length left.old ≡ stations (N.Network.meaning net.now)) }
     ensures { Laid (N.Network.meaning net.now) standing.now (length (N.Network.meaning net.now).legs) plan.new left.new }
 {
-    for number in 0..net.legs() {
-        carry(net, standing, number, plan, left);
-    }
+    plan.fill(0);
+    write_balances(net, left);
+    let mut draft = Draft {
+        amounts: plan,
+        left,
+    };
+    carry_all(net, standing, &mut draft);
 }
 
 // The bikes that are over at a station, 0 where bikes are lacking.

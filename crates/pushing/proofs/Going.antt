@@ -1,64 +1,61 @@
 -- Bikes that go along last steps, one by one.
-use Rattle.std.proofs.Common.{◌≡◌, ℕ, ◌+◌, ◌-◌, ◌<◌, ◌≤◌, min, Bool, List, length, take, drop, set, ℤ, Some, None, Option, sym, refl, ap, ◌∙◌, subst, inl, inr, arith, length-set}
+use Rattle.std.proofs.Common.{◌≡◌, ℕ, ◌+◌, ◌-◌, ◌<◌, ◌≤◌, Bool, List, length, take, drop, set, ℤ, Some, None, Option, sym, refl, ap, ◌∙◌, subst, inl, inr, arith, length-set}
 use Rattle.std.proofs.Math.Seq.{take-set-lt}
 use Rattle.std.proofs.lemmas.Option.{none-some, same_Some}
 use Rattle.std.proofs.lemmas.List.{drop-set-lt, get_or-take}
+use Rattle.records.specs.declared.leg.Leg.{Leg}
 use Rattle.network.specs.Nets.{Net}
+use Rattle.plans.specs.declared.direction.Direction.{Direction}
+use Rattle.plans.specs.declared.direction.Direction.TheVariants.{Forth, Back}
 use Rattle.plans.specs.Plans.{stations, leg_at, amount, in_force, Fits}
 use Rattle.plans.specs.Residuals.{both_group, Certifies}
-use Rattle.certificates.specs.Pushes.{Sent}
+use Rattle.certificates.specs.Pushes.{carried, Takes, Sent}
 use Rattle.certificates.proofs.Kept.{rooms}
-use Rattle.certificates.proofs.Moved.{unsent, up_to_there}
-use Rattle.search.specs.declared.label.Last.{Last}
-use Rattle.search.specs.declared.label.Last.TheVariants.{Start, Forth, Back}
+use Rattle.certificates.proofs.Moved.{up_to_there}
+use Rattle.steps.specs.declared.step.Step.{Step}
 use Rattle.search.specs.declared.label.Arrival.{Arrival}
 use Rattle.search.specs.declared.label.Label.{Label}
 use Rattle.pushing.specs.Sends.{Both, Known, SettledFor, planned, Agrees}
-use Rattle.pushing.specs.Routes.{Leads, room_over, toll, shifted, Link, Route, begins, goes, Steps, StepsInto, Along}
+use Rattle.pushing.specs.Routes.{Leads, room_along, toll, shifted_by, Link, Route, begins, goes, pushed, Steps, last_of, StepsInto, Along}
 use Rattle.pushing.proofs.Routing.{from_below, ordered, Ordered, route_below, step_sent, step_kept, rest_at}
 
 -- ---- one step in a table
-kept_over : (net : Net) (b : ℕ) (l : Last) (r : Option ℕ) (plan after : List ℕ) → Steps net b l r plan after → (length after ≡ length plan) × (drop (length net.legs) after ≡ drop (length net.legs) plan)
-kept_over net b Start r plan after s = (ap length s.1, ap (drop (length net.legs)) s.1)
-kept_over net b (Forth k) r plan after (inl s) = (ap length s.2 ∙ length-set plan k _, ap (drop (length net.legs)) s.2 ∙ drop-set-lt (length net.legs) plan k _ s.0)
-kept_over net b (Forth k) r plan after (inr s) = (ap length s.2, ap (drop (length net.legs)) s.2)
-kept_over net b (Back k) r plan after (inl s) = (ap length s.2 ∙ length-set plan k _, ap (drop (length net.legs)) s.2 ∙ drop-set-lt (length net.legs) plan k _ s.0)
-kept_over net b (Back k) r plan after (inr s) = (ap length s.2, ap (drop (length net.legs)) s.2)
+kept_over : (net : Net) (b : ℕ) (s : Step) (r : Option ℕ) (plan after : List ℕ) → Steps net b s r plan after → (length after ≡ length plan) × (drop (length net.legs) after ≡ drop (length net.legs) plan)
+kept_over net b s r plan after (inl q) = (ap length q.2 ∙ length-set plan s.leg _, ap (drop (length net.legs)) q.2 ∙ drop-set-lt (length net.legs) plan s.leg _ q.0)
+kept_over net b s r plan after (inr q) = (ap length q.2, ap (drop (length net.legs)) q.2)
 
 kept_into : (net : Net) (ls : List (Label Both)) (v b : ℕ) (r : Option ℕ) (plan after : List ℕ) → StepsInto net ls v b r plan after → (length after ≡ length plan) × (drop (length net.legs) after ≡ drop (length net.legs) plan)
-kept_into net ls v b r plan after (inl s) = kept_over net b s.0.last r plan after s.2
+kept_into net ls v b r plan after (inl s) = kept_over net b s.0 r plan after s.2
 kept_into net ls v b r plan after (inr s) = (ap length s.2, ap (drop (length net.legs)) s.2)
 
--- the plan in the table is the one after the step
-shown_over : (net : Net) (standing : List ℕ) (b : ℕ) (l : Last) (u v : ℕ) (r : Option ℕ) (plan after : List ℕ) → Fits net (planned net plan) → Leads net l u v → b ≤ room_over net standing (planned net plan) l → Steps net b l r plan after
-    → (r ≡ Some u) × (planned net after ≡ shifted l b (planned net plan))
-shown_over net standing b Start u v r plan after f p h s = absurd p
-shown_over net standing b (Forth k) u v r plan after f p h (inr s) = absurd (omega (arith, s.0, p.0.there))
-shown_over net standing b (Forth k) u v r plan after f p h (inl s) =
-    let m = length net.legs in
-    let g : amount (planned net plan) k ≡ amount plan k = get_or-take m plan k 0 s.0 in
-    let w : amount (planned net plan) k + b ≤ in_force (leg_at net k) = ((rooms net standing (planned net plan) k f p.0).2 b h).within in
-    let e : min (amount plan k + b) (in_force (leg_at net k)) ≡ amount (planned net plan) k + b = omega arith in
-    (s.1 ∙ ap Some p.1, ap (take m) s.2 ∙ take-set-lt m plan k _ s.0 ∙ ap (set (planned net plan) k) e)
-shown_over net standing b (Back k) u v r plan after f p h (inr s) = absurd (omega (arith, s.0, p.0.there))
-shown_over net standing b (Back k) u v r plan after f p h (inl s) =
-    let m = length net.legs in
-    let g : amount plan k ≡ amount (planned net plan) k = sym (get_or-take m plan k 0 s.0) in
-    (s.1 ∙ ap Some p.1, ap (take m) s.2 ∙ take-set-lt m plan k _ s.0 ∙ ap (λ y. set (planned net plan) k (y - b)) g)
+-- as many bikes as a leg takes are pushed whole
+same_amount : (d : Direction) (l : Leg) (s x y b : ℕ) → x ≡ y → Takes d (in_force l) s x b → pushed d l y b ≡ carried d x b
+same_amount Forth l s x y b e t = omega (arith, e, t.0)
+same_amount Back l s x y b e t = ap (λ z. z - b) (sym e)
 
-shown_into : (net : Net) (standing : List ℕ) (ls : List (Label Both)) (b u v : ℕ) (x : Arrival Both) (r : Option ℕ) (plan after : List ℕ) → Fits net (planned net plan) → Known ls v x → Link net standing (planned net plan) ls b u v x → StepsInto net ls v b r plan after
-    → (r ≡ Some u) × (planned net after ≡ shifted x.last b (planned net plan))
-shown_into net standing ls b u v x r plan after f k l (inl s) =
-    shown_over net standing b x.last u v r plan after f l.leads l.room (subst (λ (y : Arrival Both). Steps net b y.last r plan after) (same_Some _ _ (sym s.1 ∙ k)) s.2)
-shown_into net standing ls b u v x r plan after f k l (inr s) = absurd (none-some x (sym s.0 ∙ k))
+-- the plan in the table is the one after the step
+shown_over : (net : Net) (standing : List ℕ) (b : ℕ) (s : Step) (u v : ℕ) (r : Option ℕ) (plan after : List ℕ) → Fits net (planned net plan) → Leads net s u v → b ≤ room_along net standing (planned net plan) s → Steps net b s r plan after
+    → (r ≡ Some u) × (planned net after ≡ shifted_by s b (planned net plan))
+shown_over net standing b s u v r plan after f p h (inr q) = absurd (omega (arith, q.0, p.joined.there))
+shown_over net standing b s u v r plan after f p h (inl q) =
+    let m = length net.legs in
+    let k = s.leg in
+    let g : amount (planned net plan) k ≡ amount plan k = get_or-take m plan k 0 q.0 in
+    let t = ((rooms s.direction net standing (planned net plan) k f p.joined).1 b h).takes in
+    let e = same_amount s.direction (leg_at net k) (amount standing k) (amount (planned net plan) k) (amount plan k) b g t in
+    (q.1 ∙ ap Some p.begins, ap (take m) q.2 ∙ take-set-lt m plan k _ q.0 ∙ ap (set (planned net plan) k) e)
+
+shown_into : (net : Net) (standing : List ℕ) (ls : List (Label Both)) (b u v : ℕ) (x : Arrival Both) (r : Option ℕ) (plan after : List ℕ) → Fits net (planned net plan) → Known ls v x → (l : Link net standing (planned net plan) ls b u v x) → StepsInto net ls v b r plan after
+    → (r ≡ Some u) × (planned net after ≡ shifted_by l.last b (planned net plan))
+shown_into net standing ls b u v x r plan after f k l (inl q) =
+    let same : q.0 ≡ l.last = same_Some _ _ (sym q.1 ∙ ap last_of k ∙ l.by) in
+    shown_over net standing b l.last u v r plan after f l.leads l.room (subst (λ (s : Step). Steps net b s r plan after) same q.2)
+shown_into net standing ls b u v x r plan after f k l (inr q) = absurd (none-some l.last (sym q.0 ∙ ap last_of k ∙ l.by))
 
 -- where a walk starts nothing is taken
-start_over : (net : Net) (b : ℕ) (l : Last) (r : Option ℕ) (plan after : List ℕ) → l ≡ Start → Steps net b l r plan after → (r ≡ None) × (after ≡ plan)
-start_over net b l r plan after e s = subst (λ m. Steps net b m r plan after) e s
-
-start_into : (net : Net) (ls : List (Label Both)) (b v : ℕ) (x : Arrival Both) (r : Option ℕ) (plan after : List ℕ) → Known ls v x → x.last ≡ Start → StepsInto net ls v b r plan after → (r ≡ None) × (after ≡ plan)
-start_into net ls b v x r plan after k e (inl s) = start_over net b s.0.last r plan after (ap (λ (y : Arrival Both). y.last) (same_Some _ _ (sym s.1 ∙ k)) ∙ e) s.2
-start_into net ls b v x r plan after k e (inr s) = (s.1, s.2)
+start_into : (net : Net) (ls : List (Label Both)) (b v : ℕ) (x : Arrival Both) (r : Option ℕ) (plan after : List ℕ) → Known ls v x → x.last ≡ None → StepsInto net ls v b r plan after → (r ≡ None) × (after ≡ plan)
+start_into net ls b v x r plan after k e (inl q) = absurd (none-some q.0 (sym (ap last_of k ∙ e) ∙ q.1))
+start_into net ls b v x r plan after k e (inr q) = (q.1, q.2)
 
 -- ---- step by step
 -- the station that the loop has come to after i turns
@@ -82,18 +79,18 @@ middle_more {net} {standing} {ls} {b} since target i u plan now after o t h c (b
 middle_more {net} {standing} {ls} {b} since target i u plan now after o t h c (goes {u = w} {v = at} {s = s} x l k link r) p =
     let q = shown_into net standing ls b w at x (Some u) now after t.fits k link p in
     let e : w ≡ u = sym (same_Some _ _ q.0) in
-    let d = o.back_from w at x l k link.leads in
-    let m : Middle net standing ls since b target s (i + 1) w plan (shifted x.last b (planned net now)) =
+    let d = o.back_from w at x link.last l k link.by link.leads in
+    let m : Middle net standing ls since b target s (i + 1) w plan (shifted_by link.last b (planned net now)) =
     record {
-      route = rest_at since o x.last w at s link.leads d r;
-      sent = up_to_there net plan b w at target (planned net now) (shifted x.last b (planned net now)) t (step_sent net standing (planned net now) b t.fits x.last w at link.leads link.room);
+      route = rest_at since o link.last w at s link.leads d r;
+      sent = up_to_there net plan b w at target (planned net now) (shifted_by link.last b (planned net now)) t (step_sent net standing (planned net now) b t.fits link.last w at link.leads link.room);
       turns = omega (arith, d, h);
       kept = λ π a y.
-          let f = from_below net x.last w at link.leads in
-          let tight = a at x l k ∙ link.tight ∙ ap (λ z. both_group.add z (toll net standing (planned net now) x.last)) (sym (a w link.before f link.known)) in
-          step_kept net standing (planned net now) b t.fits x.last w at π link.leads link.room tight (c π a y);
+          let f = from_below net link.last w at link.leads in
+          let tight = a at x l k ∙ link.tight ∙ ap (λ z. both_group.add z (toll net standing (planned net now) link.last)) (sym (a w link.before f link.known)) in
+          step_kept net standing (planned net now) b t.fits link.last w at link.leads link.room π tight (c π a y);
     } in
-    subst (λ y. Middle net standing ls since b target s (i + 1) u plan y) (sym q.1) (subst (λ y. Middle net standing ls since b target s (i + 1) y plan (shifted x.last b (planned net now))) e m)
+    subst (λ y. Middle net standing ls since b target s (i + 1) u plan y) (sym q.1) (subst (λ y. Middle net standing ls since b target s (i + 1) y plan (shifted_by link.last b (planned net now))) e m)
 
 -- the end
 middle_stop : {net : Net} {standing : List ℕ} {ls : List (Label Both)} {b at s : ℕ} (target : ℕ) (plan now after : List ℕ) → Sent net plan (planned net now) b at target → Route net standing (planned net now) ls b at s → StepsInto net ls at b None now after
@@ -102,9 +99,6 @@ middle_stop {net} {standing} {ls} {b} target plan now after t (begins {v = at} x
 middle_stop {net} {standing} {ls} {b} target plan now after t (goes {u = w} {v = at} {s = s} x l k link r) p = absurd (none-some w (shown_into net standing ls b w at x None now after t.fits k link p).0)
 
 module _ (net : Net) (ls : List (Label Both)) (b target : ℕ) (plan : List ℕ) where
-  pub going_none : Going net ls b target 0 target plan plan
-  going_none = record { long = refl; beyond = refl; middle = λ standing old f s z fits r. record { route = r; sent = unsent net (planned net plan) b target fits; turns = omega arith; kept = λ π a c. c } }
-
   pub going_more : (i at u : ℕ) (now after : List ℕ) → Going net ls b target i at plan now → StepsInto net ls at b (Some u) now after → Going net ls b target (i + 1) u plan after
   going_more i at u now after g p =
       let k = kept_into net ls at b (Some u) now after p in

@@ -1,26 +1,12 @@
--- What is to be seen at a station.
-use Rattle.std.proofs.Common.{◌≡◌, ℕ, Bool, true, false, ℤ, ◌+ℤ◌, Some, None, Option, Decides, sym, refl, ap, ◌∙◌, subst, w64, SFits, to_z, of_z}
+-- Sums of two numbers that are looked for.
+use Rattle.std.proofs.Common.{◌≡◌, Bool, true, false, ℤ, ◌+ℤ◌, Some, None, Option, Decides, sym, refl, ap, ◌∙◌, subst, w64, SFits, to_z, of_z}
 use Rattle.std.specs.Option.{SomeIff, option_eq}
 use Rattle.std.specs.Ordering.{int_eq}
 use Rattle.std.proofs.lemmas.Bool.Decides.{Decides-int_eq}
 use Rattle.std.proofs.lemmas.Int.{to_z-of_z}
 use Rattle.std.proofs.lemmas.Bool.{both_ways}
-use Rattle.network.specs.Nets.{Net}
 use Rattle.theory.specs.Groups.{two}
-use Rattle.search.specs.declared.label.Last.{Last}
-use Rattle.search.specs.declared.label.Last.TheVariants.{Start, Forth, Back}
-use Rattle.pushing.specs.Routes.{Leads}
 
--- a step has one end at each side
-pub one_from : (net : Net) (l : Last) (u v w z : ℕ) → Leads net l u v → Leads net l w z → u ≡ w
-one_from net Start u v w z p q = absurd p
-one_from net (Forth k) u v w z p q = sym p.1 ∙ q.1
-one_from net (Back k) u v w z p q = sym p.1 ∙ q.1
-
-pub no_start : (net : Net) (l : Last) (u v : ℕ) → Leads net l u v → l ≡ Start → ⊥
-no_start net l u v p e = subst (λ m. Leads net m u v) e p
-
--- ---- sums that are looked for
 summed : (o : Option ℤ) (t s : ℤ) → SFits w64 t → SomeIff o (SFits w64 s) s → Decides (option_eq int_eq o (Some t)) (t ≡ s)
 summed None t s f h = (λ e. absurd (both_ways false refl e), λ e. absurd (h (subst (SFits w64) e f)))
 summed (Some x) t s f h = (λ e. sym ((Decides-int_eq x t).0 e) ∙ h.1, λ e. (Decides-int_eq x t).1 (h.1 ∙ sym e))

@@ -1,20 +1,22 @@
 -- What a sending does to a plan and to what is left over.
-use Rattle.std.proofs.Common.{◌≡◌, ℕ, zero, suc, negsuc, neg_ℤ, ◌<◌, ◌≤◌, Bool, ◌≢◌, List, length, get_or, drop, set, ℤ, pos, ◌+ℤ◌, ◌-ℤ◌, ◌≤ℤ◌, ◌<ℤ◌, None, sym, refl, ap, ◌∙◌, subst, inl, inr, arith, length-set, get_or-set_other, get_or-set_same, w64, SFits, to_z, of_z}
-use native.Mathlib.Decide.{ℕ_discrete}
-use borrow.Author.Differences.{ints}
+use Rattle.std.proofs.Common.{◌≡◌, ℕ, zero, suc, negsuc, neg_ℤ, ◌<◌, ◌≤◌, Bool, List, length, get_or, drop, ℤ, pos, ◌+ℤ◌, ◌-ℤ◌, ◌≤ℤ◌, ◌<ℤ◌, None, sym, refl, ap, ◌∙◌, subst, inl, inr, arith, w64, SFits, to_z, of_z}
 use Rattle.std.proofs.lemmas.List.{drop-set-lt, get_or_past, get_or-take}
 use Rattle.std.specs.Int.{saturate_signed}
-use Rattle.std.proofs.lemmas.Int.{to_z-of_z}
-use Rattle.std.proofs.lemmas.Bool.{cases_lt}
+use Rattle.std.proofs.lemmas.Int.{ints, to_z-of_z}
+use Rattle.std.proofs.lemmas.Bool.{cases_lt, ne_eqb}
 use Rattle.network.specs.Nets.{Net}
 use Rattle.plans.specs.Plans.{stations}
 use Rattle.plans.specs.Cuts.{left_over}
+use Rattle.theory.specs.Trails.{here}
 use Rattle.certificates.specs.Pushes
 use Rattle.certificates.proofs.Moved.{lowers_over}
+use Rattle.draft.specs.declared.Draft.{Draft}
+use Rattle.draft.specs.Drafts.{handed}
+use Rattle.draft.proofs.Handing.{handed_at}
 use Rattle.search.specs.declared.label.Label.{Label}
 use Rattle.pushing.specs.Sends.{Both, SettledFor, planned, Tracks, Sent, Ready, Sends}
 use Rattle.pushing.specs.Routes.{Route, Finds, Along}
-use Rattle.pushing.proofs.Routing.{leg_of, leg_there, route_below, route_start, start_below, route_less, route_at}
+use Rattle.pushing.proofs.Routing.{route_below, route_start, start_below, route_less, route_at}
 
 -- an entry that is not 0 is there
 pub not_past : (xs : List ℤ) (i : ℕ) → (get_or xs i (pos 0) ≡ pos 0 → ⊥) → i < length xs
@@ -75,25 +77,35 @@ has_of room mid b x y p h = let q = p.of_start.has (omega (arith, p.of_target.wi
 pub lacks_of : (room mid b : ℕ) (x y : ℤ) → Spends room mid b x y → 0 < b → (y +ℤ pos b) ≤ℤ pos 0
 lacks_of room mid b x y p h = lacked y b (p.of_target.has h)
 
-module _ (net : Net) (standing : List ℕ) (ls : List (Label Both)) (target : ℕ) (plan : List ℕ) (left : List ℤ) where
+-- ---- 64 bits hold what is left over then
+fits_less : (x : ℤ) (b : ℕ) → pos b ≤ℤ x → SFits w64 x → SFits w64 (x -ℤ pos b)
+fits_less x b h f = omega (arith, ints, f)
+
+fits_more : (y : ℤ) (b : ℕ) → (y +ℤ pos b) ≤ℤ pos 0 → SFits w64 y → SFits w64 (y +ℤ pos b)
+fits_more y b h f = omega (arith, ints, f)
+
+module _ (net : Net) (standing : List ℕ) (ls : List (Label Both)) (target : ℕ) (before : Draft) where
+  abbrev plan : List ℕ
+  plan = before.amounts.now
+
+  abbrev left : List ℤ
+  left = before.left.now
+
   -- nothing is sent
-  pub sends_none : ((old : List ℕ) (f : ℕ → Bool) → SettledFor net standing old f ls → Tracks net plan left → Ready net standing old f ls target plan → ⊥) → Sends net standing ls target 0 plan plan left left
+  pub sends_none : ((old : List ℕ) (f : ℕ → Bool) → SettledFor net standing old f ls → Tracks net plan left → Ready net standing old f ls target plan → ⊥) → Sends net standing ls target 0 before before
   sends_none never =
       record {
-        plan_long = refl;
-        left_long = refl;
-        plan_beyond = refl;
-        left_beyond = refl;
+        beyond = record { amounts = refl; left = refl };
         none = λ e. (refl, refl);
         sent = λ old f z t. record { tracks = t; certified = λ π a c. c; lower = omega arith };
         some = λ old f z t r. absurd (never old f z t r);
       }
 
-  pub never_lost : Finds net standing plan ls target None → Sends net standing ls target 0 plan plan left left
+  pub never_lost : Finds net standing plan ls target None → Sends net standing ls target 0 before before
   never_lost h = sends_none (λ old f z t r. h old f r.arrival z r.same r.below r.labelled)
 
   module _ (room s : ℕ) (route : Route net standing plan ls room target s) where
-    pub never_spent : (mid b : ℕ) → 0 < room → Spends room mid b (get_or left s (pos 0)) (get_or left target (pos 0)) → b ≡ 0 → Sends net standing ls target 0 plan plan left left
+    pub never_spent : (mid b : ℕ) → 0 < room → Spends room mid b (get_or left s (pos 0)) (get_or left target (pos 0)) → b ≡ 0 → Sends net standing ls target 0 before before
     never_spent mid b h p e =
         sends_none (λ old f z t r.
         let over = r.over s (route_start f z route) in
@@ -104,50 +116,40 @@ module _ (net : Net) (standing : List ℕ) (ls : List (Label Both)) (target : �
         let z = p.of_target.some (p.of_start.some h has) (lacking (get_or left target (pos 0)) lacks) in
         omega (arith, z, e))
 
-    module _ (b : ℕ) (after : List ℕ) (left_after : List ℤ) (fits : b ≤ room) (some : 0 < b) (has : pos b ≤ℤ get_or left s (pos 0)) (lacks : (get_or left target (pos 0) +ℤ pos b) ≤ℤ pos 0) (along : Along net ls b target plan after)
-        (written : left_after ≡ set (set left s (get_or left s (pos 0) -ℤ pos b)) target (get_or left target (pos 0) +ℤ pos b)) where
+    module _ (b : ℕ) (after : Draft) (fits : b ≤ room) (some : 0 < b) (has : pos b ≤ℤ get_or left s (pos 0)) (lacks : (get_or left target (pos 0) +ℤ pos b) ≤ℤ pos 0)
+        (fits_start : SFits w64 (get_or left s (pos 0))) (fits_target : SFits w64 (get_or left target (pos 0))) (along : Along net ls b target plan after.amounts.now) (written : after.left.now ≡ handed s target b left) where
       ends : s ≡ target → ⊥
       ends = apart_ends left s target b some has lacks
 
       -- the route in the plan of the table
       route_in : Route net standing (planned net plan) ls b target s
-      route_in = route_at (planned net plan) (λ _. Unit {0}) (λ u v x q h k p. (tt, sym (get_or-take (length net.legs) plan (leg_of x.last) 0 (leg_there net x.last u v p)))) (route_less fits route) tt
+      route_in = route_at (planned net plan) (λ _. Unit {0}) (λ u v x l q h k e p. (tt, sym (get_or-take (length net.legs) plan l.leg 0 p.joined.there))) (route_less fits route) tt
 
-      at_target : get_or left_after target (pos 0) ≡ get_or left target (pos 0) +ℤ pos b
-      at_target =
-          let h : target < length (set left s (get_or left s (pos 0) -ℤ pos b)) = omega (arith, length-set left s (get_or left s (pos 0) -ℤ pos b), lack_there left target b some lacks) in
-          rw written (get_or-set_same (set left s (get_or left s (pos 0) -ℤ pos b)) target (get_or left target (pos 0) +ℤ pos b) (pos 0) h)
+      at_start : (v : ℕ) → s ≡ v → (v < length left) × SFits w64 (get_or left v (pos 0) -ℤ pos b)
+      at_start v e = subst (λ w. (w < length left) × SFits w64 (get_or left w (pos 0) -ℤ pos b)) e (over_there left s b some has, fits_less _ b has fits_start)
 
-      at_other : (v : ℕ) → v ≢ target → get_or left_after v (pos 0) ≡ get_or (set left s (get_or left s (pos 0) -ℤ pos b)) v (pos 0)
-      at_other v h = rw written (get_or-set_other (set left s (get_or left s (pos 0) -ℤ pos b)) target v (get_or left target (pos 0) +ℤ pos b) (pos 0) h)
+      at_target : (v : ℕ) → target ≡ v → (v < length left) × SFits w64 ((get_or left v (pos 0) -ℤ pos (here b s v)) +ℤ pos b)
+      at_target v e =
+          let f = fits_more _ b lacks fits_target in
+          subst (λ w. (w < length left) × SFits w64 ((get_or left w (pos 0) -ℤ pos (here b s w)) +ℤ pos b)) e (lack_there left target b some lacks, rw (ne_eqb s target ends) (omega (arith, ints, f)))
 
       -- what is left over after it, by what was left over before it
-      left_is : Pushes.Sent net (planned net plan) (planned net after) b s target → ((v : ℕ) → v < stations net → get_or left v (pos 0) ≡ left_over net (planned net plan) v) → (v : ℕ) → v < stations net → get_or left_after v (pos 0) ≡ left_over net (planned net after) v
-      left_is q t v h =
-          elim (ℕ_discrete v target) [
-            | yes e ↦ rw e (at_target ∙ ap (λ y. y +ℤ pos b) (t target (route_below route)) ∙ sym (q.last ends))
-            | no n ↦ elim (ℕ_discrete v s) [
-              | yes e ↦ at_other v n ∙ rw e (get_or-set_same left s (get_or left s (pos 0) -ℤ pos b) (pos 0) (over_there left s b some has) ∙ ap (λ y. y -ℤ pos b) (t s (start_below route)) ∙ sym (q.first ends))
-              | no m ↦ at_other v n ∙ get_or-set_other left s v (get_or left s (pos 0) -ℤ pos b) (pos 0) m ∙ t v h ∙ sym (q.others v (λ e. m (sym e)) (λ e. n (sym e)))
-            ]
-          ]
+      left_is : Pushes.Sent net (planned net plan) (planned net after.amounts.now) b s target → ((v : ℕ) → v < stations net → get_or left v (pos 0) ≡ left_over net (planned net plan) v) → (v : ℕ) → v < stations net → get_or after.left.now v (pos 0) ≡ left_over net (planned net after.amounts.now) v
+      left_is q t v h = ap (λ xs. get_or xs v (pos 0)) written ∙ handed_at s target b left v (at_start v) (at_target v) ∙ ap (λ y. (y -ℤ pos (here b s v)) +ℤ pos (here b target v)) (t v h) ∙ sym (q.moved v)
 
-      sent_by : (old : List ℕ) (f : ℕ → Bool) → SettledFor net standing old f ls → Tracks net plan left → Sent net standing ls b plan after left_after
+      sent_by : (old : List ℕ) (f : ℕ → Bool) → SettledFor net standing old f ls → Tracks net plan left → Sent net standing ls b plan after.amounts.now after.left.now
       sent_by old f z t =
           let q = along.sent standing old f s z t.fits route_in in
           record {
             tracks = record { fits = q.0.fits; left_overs = left_is q.0 t.left_overs };
             certified = q.1;
-            lower = lowers_over net (planned net plan) (planned net after) b s target q.0 (start_below route) ends (subst (λ y. pos b ≤ℤ y) (t.left_overs s (start_below route)) has) (subst (λ y. (y +ℤ pos b) ≤ℤ pos 0) (t.left_overs target (route_below route)) lacks);
+            lower = lowers_over net (planned net plan) (planned net after.amounts.now) b s target q.0 (start_below route) ends (subst (λ y. pos b ≤ℤ y) (t.left_overs s (start_below route)) has) (subst (λ y. (y +ℤ pos b) ≤ℤ pos 0) (t.left_overs target (route_below route)) lacks);
           }
 
-      pub sends_some : Sends net standing ls target b plan after left left_after
+      pub sends_some : Sends net standing ls target b before after
       sends_some =
           record {
-            plan_long = along.long;
-            left_long = ap length written ∙ length-set _ target _ ∙ length-set left s _;
-            plan_beyond = along.beyond;
-            left_beyond = ap (drop (stations net)) written ∙ drop-set-lt (stations net) _ target _ (route_below route) ∙ drop-set-lt (stations net) left s _ (start_below route);
+            beyond = record { amounts = along.beyond; left = ap (drop (stations net)) written ∙ drop-set-lt (stations net) _ target _ (route_below route) ∙ drop-set-lt (stations net) left s _ (start_below route) };
             none = λ e. absurd (omega (arith, e, some));
             sent = sent_by;
             some = λ old f z t r. some;

@@ -1,24 +1,28 @@
 -- Last steps of labels, as a plan stands now.
---   Leads       a step over a leg between stations, by its direction, whatever the amounts
---   room_over   how many bikes may go along a step
+--   Leads       a step over a leg between stations, whatever the amounts
+--   room_along  how many bikes may go along a step
 --   toll        what a step costs
---   shifted     the plan after bikes went along a step
+--   shifted_by  the plan after bikes went along a step
 --   Link        a tight step with room for b bikes into a labelled station from another
 --   Route       last steps with room for b bikes, from a station back to where a walk starts
 --   Quotes      what is found of a step
 --   Sees        what is found of the last step of a label
 --   Finds       what is found of the last steps back from a station
+--   pushed      what a leg carries after bikes were sent along a step, if it takes no more than its capacity
 --   Steps       a plan after bikes went along a step, and where the step comes from
---   StepsInto   the same of the last step of a label
+--   last_of, last_at   the last step of an arrival and of a label, if there is any
+--   StepsInto   a plan after bikes went along the last step of a label
 --   Along       a plan after bikes went along last steps
-use Rattle.std.specs.Prelude.{◌≡◌, ℕ, ◌+◌, ◌<◌, ◌≤◌, min, Bool, ◌⊎◌, List, length, drop, ℤ, pos, Some, None, Option, ◌≢◌, slice_set}
+use Rattle.std.specs.Prelude.{◌≡◌, ℕ, ◌+◌, ◌-◌, ◌<◌, ◌≤◌, min, Bool, ◌⊎◌, List, length, drop, ℤ, Some, None, Option, ◌≢◌, slice_set}
+use Rattle.records.specs.declared.leg.Leg.{Leg}
 use Rattle.network.specs.Nets.{Net}
+use Rattle.plans.specs.declared.direction.Direction.{Direction}
+use Rattle.plans.specs.declared.direction.Direction.TheVariants.{Forth, Back}
 use Rattle.plans.specs.Plans.{stations, leg_at, amount, in_force, Fits}
-use Rattle.plans.specs.Residuals.{forth, back, Joined, step_both, both_group, Certifies}
-use Rattle.certificates.specs.Pushes.{more, fewer, room_forth, room_back}
+use Rattle.plans.specs.Residuals.{Joined, tail, head, step_both, both_group, Certifies}
+use Rattle.certificates.specs.Pushes.{shifted, room_over}
 use Rattle.certificates.specs.Pushes
-use Rattle.search.specs.declared.label.Last.{Last}
-use Rattle.search.specs.declared.label.Last.TheVariants.{Start, Forth, Back}
+use Rattle.steps.specs.declared.step.Step.{Step}
 use Rattle.search.specs.declared.label.Arrival.{Arrival}
 use Rattle.search.specs.Labels.{label_at}
 use Rattle.search.specs.declared.label.Label.{Label}
@@ -29,47 +33,43 @@ use Rattle.pushing.specs.declared.looks.Sight.{Sight}
 use Rattle.pushing.specs.declared.looks.Sight.TheVariants.{Begun, Came}
 
 -- from u to v
-abbrev pub Leads : Net → Last → ℕ → ℕ → Type 0
-Leads net Start u v = ⊥
-Leads net (Forth k) u v = Joined net k × ((leg_at net k).start ≡ u) × ((leg_at net k).end ≡ v)
-Leads net (Back k) u v = Joined net k × ((leg_at net k).end ≡ u) × ((leg_at net k).start ≡ v)
+pub record Leads (net : Net) (s : Step) (u v : ℕ) : Type 0 where
+  pub joined : Joined net s.leg
+  pub begins : tail s.direction (leg_at net s.leg) ≡ u
+  pub ends : head s.direction (leg_at net s.leg) ≡ v
 
-abbrev pub room_over : Net → List ℕ → List ℕ → Last → ℕ
-room_over net standing plan Start = 0
-room_over net standing plan (Forth k) = room_forth net standing plan k
-room_over net standing plan (Back k) = room_back standing plan k
+abbrev pub room_along : Net → List ℕ → List ℕ → Step → ℕ
+room_along net standing plan s = room_over s.direction net standing plan s.leg
 
-abbrev pub toll : Net → List ℕ → List ℕ → Last → ℤ × ℤ
-toll net standing plan Start = (pos 0, pos 0)
-toll net standing plan (Forth k) = step_both net standing plan forth k
-toll net standing plan (Back k) = step_both net standing plan back k
+abbrev pub toll : Net → List ℕ → List ℕ → Step → ℤ × ℤ
+toll net standing plan s = step_both net standing plan s.direction s.leg
 
-abbrev pub shifted : Last → ℕ → List ℕ → List ℕ
-shifted Start b plan = plan
-shifted (Forth k) b plan = more plan k b
-shifted (Back k) b plan = fewer plan k b
+abbrev pub shifted_by : Step → ℕ → List ℕ → List ℕ
+shifted_by s b plan = shifted s.direction plan s.leg b
 
 -- a step that is there, or none
-abbrev pub Quotes : Net → List ℕ → List ℕ → Last → Option Quote → Type 0
-Quotes net standing plan l None = (u v : ℕ) → Leads net l u v → ⊥
-Quotes net standing plan l (Some q) = Leads net l q.from q.into × (q.room ≡ room_over net standing plan l) × (worth_of q.cost ≡ toll net standing plan l)
+abbrev pub Quotes : Net → List ℕ → List ℕ → Step → Option Quote → Type 0
+Quotes net standing plan s None = (u v : ℕ) → Leads net s u v → ⊥
+Quotes net standing plan s (Some q) = Leads net s q.from q.into × (q.room ≡ room_along net standing plan s) × (worth_of q.cost ≡ toll net standing plan s)
 
 -- v is labelled by x, and its last step comes from u, which is labelled too
 pub record Link (net : Net) (standing plan : List ℕ) (ls : List (Label Both)) (b u v : ℕ) (x : Arrival Both) : Type 0 where
   pub before : Arrival Both
+  pub last : Step
   pub known : Known ls u before
-  pub leads : Leads net x.last u v
-  pub room : b ≤ room_over net standing plan x.last
-  pub tight : worth_of x.total ≡ both_group.add (worth_of before.total) (toll net standing plan x.last)
+  pub by : x.last ≡ Some last
+  pub leads : Leads net last u v
+  pub room : b ≤ room_along net standing plan last
+  pub tight : worth_of x.total ≡ both_group.add (worth_of before.total) (toll net standing plan last)
 
 pub data Route (net : Net) (standing plan : List ℕ) (ls : List (Label Both)) (b : ℕ) : ℕ → ℕ → Type 0 where
-  begins : {v : ℕ} (x : Arrival Both) → v < stations net → Known ls v x → x.last ≡ Start → Route net standing plan ls b v v
+  begins : {v : ℕ} (x : Arrival Both) → v < stations net → Known ls v x → x.last ≡ None → Route net standing plan ls b v v
   goes : {u v s : ℕ} (x : Arrival Both) → v < stations net → Known ls v x → Link net standing plan ls b u v x → Route net standing plan ls b u s → Route net standing plan ls b v s
 
 -- no label, or the station that the last step comes from, with room for a bike, or none because a walk starts there
 abbrev pub Sees : Net → List ℕ → List ℕ → List (Label Both) → ℕ → Option Sight → Type 0
-Sees net standing plan ls v None = (x : Arrival Both) → v < stations net → Known ls v x → (x.last ≢ Start) × ((u : ℕ) → Link net standing plan ls 1 u v x → ⊥)
-Sees net standing plan ls v (Some Begun) = (v < stations net) × ((x : Arrival Both) × Known ls v x × (x.last ≡ Start))
+Sees net standing plan ls v None = (x : Arrival Both) → v < stations net → Known ls v x → (x.last ≢ None) × ((u : ℕ) → Link net standing plan ls 1 u v x → ⊥)
+Sees net standing plan ls v (Some Begun) = (v < stations net) × ((x : Arrival Both) × Known ls v x × (x.last ≡ None))
 Sees net standing plan ls v (Some (Came u room)) = (v < stations net) × (0 < room) × ((x : Arrival Both) × Known ls v x × Link net standing plan ls room u v x)
 
 -- nothing, which is so only where labels are of another plan or the station is not labelled, or a route
@@ -77,20 +77,29 @@ abbrev pub Finds : Net → List ℕ → List ℕ → List (Label Both) → ℕ �
 Finds net standing plan ls v None = (old : List ℕ) (f : ℕ → Bool) (x : Arrival Both) → SettledFor net standing old f ls → SameAmounts net old plan → v < stations net → Known ls v x → ⊥
 Finds net standing plan ls v (Some q) = (0 < q.room) × Route net standing plan ls q.room v q.start
 
+abbrev pub pushed : Direction → Leg → ℕ → ℕ → ℕ
+pushed Forth l x b = min (x + b) (in_force l)
+pushed Back l x b = x - b
+
 -- r is the station that the step comes from; a leg that is not there takes nothing
-abbrev pub Steps : Net → ℕ → Last → Option ℕ → List ℕ → List ℕ → Type 0
-Steps net b Start r plan after = (r ≡ None) × (after ≡ plan)
-Steps net b (Forth k) r plan after =
-    ((k < length net.legs) × (r ≡ Some (leg_at net k).start) × (after ≡ slice_set plan k (min (amount plan k + b) (in_force (leg_at net k)))))
-    ⊎ ((length net.legs ≤ k) × (r ≡ None) × (after ≡ plan))
-Steps net b (Back k) r plan after = ((k < length net.legs) × (r ≡ Some (leg_at net k).end) × (after ≡ fewer plan k b)) ⊎ ((length net.legs ≤ k) × (r ≡ None) × (after ≡ plan))
+abbrev pub Steps : Net → ℕ → Step → Option ℕ → List ℕ → List ℕ → Type 0
+Steps net b s r plan plan' =
+    ((s.leg < length net.legs) × (r ≡ Some (tail s.direction (leg_at net s.leg))) × (plan' ≡ slice_set plan s.leg (pushed s.direction (leg_at net s.leg) (amount plan s.leg) b)))
+    ⊎ ((length net.legs ≤ s.leg) × (r ≡ None) × (plan' ≡ plan))
+
+abbrev pub last_of : Option (Arrival Both) → Option Step
+last_of None = None
+last_of (Some x) = x.last
+
+abbrev pub last_at : List (Label Both) → ℕ → Option Step
+last_at ls v = last_of (label_at ls v).arrival
 
 abbrev pub StepsInto : Net → List (Label Both) → ℕ → ℕ → Option ℕ → List ℕ → List ℕ → Type 0
-StepsInto net ls v b r plan after = ((x : Arrival Both) × Known ls v x × Steps net b x.last r plan after) ⊎ (((label_at ls v).arrival ≡ None) × (r ≡ None) × (after ≡ plan))
+StepsInto net ls v b r plan plan' = ((s : Step) × (last_at ls v ≡ Some s) × Steps net b s r plan plan') ⊎ ((last_at ls v ≡ None) × (r ≡ None) × (plan' ≡ plan))
 
 -- by labels that a search has settled, over a route with room for b bikes
-pub record Along (net : Net) (ls : List (Label Both)) (b v : ℕ) (plan after : List ℕ) : Type 0 where
-  pub long : length after ≡ length plan
-  pub beyond : drop (length net.legs) after ≡ drop (length net.legs) plan
+pub record Along (net : Net) (ls : List (Label Both)) (b v : ℕ) (plan plan' : List ℕ) : Type 0 where
+  pub long : length plan' ≡ length plan
+  pub beyond : drop (length net.legs) plan' ≡ drop (length net.legs) plan
   pub sent : (standing old : List ℕ) (f : ℕ → Bool) (s : ℕ) → SettledFor net standing old f ls → Fits net (planned net plan) → Route net standing (planned net plan) ls b v s
-      → Pushes.Sent net (planned net plan) (planned net after) b s v × ((π : ℕ → ℤ × ℤ) → Agrees net ls π → Certifies net standing (planned net plan) π → Certifies net standing (planned net after) π)
+      → Pushes.Sent net (planned net plan) (planned net plan') b s v × ((π : ℕ → ℤ × ℤ) → Agrees net ls π → Certifies net standing (planned net plan) π → Certifies net standing (planned net plan') π)

@@ -10,14 +10,16 @@
 --   Sent          what holds after bikes were sent
 --   Ready         labels and left overs by which at least one bike can be sent
 --   Sends         what a sending does
-use Rattle.std.specs.Prelude.{◌≡◌, ℕ, ◌+◌, ◌<◌, Bool, List, length, take, drop, ℤ, pos, ◌<ℤ◌, Some, slice_index_or}
-use Rattle.costs.specs.Kinds.{CentsThenBikes}
+use Rattle.std.specs.Prelude.{◌≡◌, ℕ, ◌+◌, ◌<◌, Bool, List, length, take, ℤ, pos, ◌<ℤ◌, Some, slice_index_or}
+use Rattle.costs.specs.Kinds.{CentsThenBikes, both_kind}
 use Rattle.network.specs.Nets.{Net}
 use Rattle.plans.specs.Plans.{stations, amount, Fits}
-use Rattle.plans.specs.Residuals.{both_group, Certifies}
+use Rattle.plans.specs.Residuals.{Certifies}
 use Rattle.plans.specs.Cuts.{left_over}
 use Rattle.certificates.specs.Totals.{all_over}
-use Rattle.steps.specs.Fees.{both_worth}
+use Rattle.draft.specs.Drafts.{SameBeyond}
+use Rattle.draft.specs.declared.Draft.{Draft}
+use Rattle.steps.specs.Fees.{fee_both}
 use Rattle.search.specs.Labels.{label_at}
 use Rattle.search.specs.Searches.{Answer, From}
 use Rattle.search.specs.declared.label.Arrival.{Arrival}
@@ -35,7 +37,7 @@ Known ls v x = (label_at ls v).arrival ≡ Some x
 
 -- f tells the starts; what the search answers at fees in both
 abbrev pub SettledFor : Net → List ℕ → List ℕ → (ℕ → Bool) → List (Label Both) → Type 0
-SettledFor net standing plan f ls = Answer both_group worth_of net plan (both_worth standing) f Settled ls
+SettledFor net standing plan f ls = Answer both_kind net plan (fee_both standing) f Settled ls
 
 abbrev pub planned : Net → List ℕ → List ℕ
 planned net table = take (length net.legs) table
@@ -65,12 +67,9 @@ pub record Ready (net : Net) (standing old : List ℕ) (f : ℕ → Bool) (ls : 
   pub lacks : left_over net (planned net plan) target <ℤ pos 0
   pub over : (v : ℕ) → From net f v → pos 0 <ℤ left_over net (planned net plan) v
 
--- b bikes were sent; amounts beyond the legs and left overs beyond the stations stay
-pub record Sends (net : Net) (standing : List ℕ) (ls : List (Label Both)) (target b : ℕ) (plan after : List ℕ) (left left_after : List ℤ) : Type 0 where
-  pub plan_long : length after ≡ length plan
-  pub left_long : length left_after ≡ length left
-  pub plan_beyond : drop (length net.legs) after ≡ drop (length net.legs) plan
-  pub left_beyond : drop (stations net) left_after ≡ drop (stations net) left
-  pub none : b ≡ 0 → (after ≡ plan) × (left_after ≡ left)
-  pub sent : (old : List ℕ) (f : ℕ → Bool) → SettledFor net standing old f ls → Tracks net plan left → Sent net standing ls b plan after left_after
-  pub some : (old : List ℕ) (f : ℕ → Bool) → SettledFor net standing old f ls → Tracks net plan left → Ready net standing old f ls target plan → 0 < b
+-- b bikes were sent
+pub record Sends (net : Net) (standing : List ℕ) (ls : List (Label Both)) (target b : ℕ) (before after : Draft) : Type 0 where
+  pub beyond : SameBeyond net before after
+  pub none : b ≡ 0 → (after.amounts.now ≡ before.amounts.now) × (after.left.now ≡ before.left.now)
+  pub sent : (old : List ℕ) (f : ℕ → Bool) → SettledFor net standing old f ls → Tracks net before.amounts.now before.left.now → Sent net standing ls b before.amounts.now after.amounts.now after.left.now
+  pub some : (old : List ℕ) (f : ℕ → Bool) → SettledFor net standing old f ls → Tracks net before.amounts.now before.left.now → Ready net standing old f ls target before.amounts.now → 0 < b

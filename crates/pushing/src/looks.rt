@@ -6,19 +6,20 @@ ghost use Rattle.pushing.specs.Routes.{Sees};
 ghost use Rattle.pushing.specs.Sends.{worth_of};
 
 use crate::Routes;
-use chain_search::{Arrival, Last};
 use costs::CentsThenBikes;
+use draft::Draft;
 use network::Network;
+use search::Arrival;
 
 // What is to be seen at a station: the start of a walk, or the step that it comes by. No option of a step: `look` answers an
 // option of this, and two options in one another would tell less of what a None means.
-#[derive(Clone, Copy)]
+#[derive(Clone, Copy, PartialEq, Eq, Debug)]
 pub(crate) enum Sight {
     Begun,
     Came { from: usize, room: u16 },
 }
 
-// Whether a total is the sum of two others.
+// Whether a total is the sum of two others. Not by `sum`, which stops at a limit.
 fn is_sum(total: CentsThenBikes, one: CentsThenBikes, other: CentsThenBikes) -> bool
     ensures { Decides result (worth_of total ≡ both_group.add (worth_of one) (worth_of other)) }
 {
@@ -35,17 +36,17 @@ impl<'a, N: Network> Routes<'a, N> {
     }
 
     // What is to be seen at a station, if there is anything to go by.
-    pub(crate) fn look(&self, plan: &[u16], station: usize) -> Option<Sight>
-        ensures { Sees (N.Network.meaning self.now.net.now) self.now.standing.now plan.now self.now.labels.now station result }
+    pub(crate) fn look(&self, draft: &Draft<'_>, station: usize) -> Option<Sight>
+        ensures { Sees (N.Network.meaning self.now.net.now) self.now.standing.now draft.now.amounts.now self.now.labels.now station result }
     {
         if station >= self.net.stations() {
             return None;
         }
         let arrival = self.arrival_at(station)?;
-        if let Last::Start = arrival.last {
+        let Some(step) = arrival.last else {
             return Some(Sight::Begun);
-        }
-        let quote = self.quote_of(plan, arrival.last)?;
+        };
+        let quote = self.quote_of(draft.amounts, step)?;
         if quote.into != station || quote.room == 0 {
             return None;
         }

@@ -1,51 +1,33 @@
 // Bikes that go along last steps.
-ghost use Rattle.std.specs.Prelude.{◌≡◌, ℕ, ◌<◌, ◌≤◌, length, slice_set};
-ghost use Rattle.plans.specs.Plans.{amount};
 ghost use Rattle.pushing.specs.Routes.{Along, Steps, StepsInto};
 
 use crate::Routes;
-use chain_search::Last;
 use network::Network;
-use steps::in_force;
-
-// Alters the amount of a leg, if it is there. By index, since of a write through `get_mut` only the length is known after it.
-fn alter<F: FnOnce(u16) -> u16>(plan: &mut [u16], number: usize, change: F)
-    requires { F.IsAlwaysCallable change }
-    ensures there { number < length plan.old → (x : ℕ) × F.post change (amount plan.old number) x × (plan.new ≡ slice_set plan.old number x) }
-    ensures gone { length plan.old ≤ number → plan.new ≡ plan.old }
-{
-    if number < plan.len() {
-        plan[number] = change(plan[number]);
-    }
-}
+use plans::Direction;
+use slices::put;
+use steps::{Load, Step, in_force};
 
 impl<'a, N: Network> Routes<'a, N> {
     // Sends bikes along a step, and says where it comes from. A leg takes no more than its capacity.
-    fn push_step(&self, last: Last, bikes: u16, plan: &mut [u16]) -> Option<usize>
-        ensures { Steps (N.Network.meaning self.now.net.now) bikes last result plan.old plan.new }
+    fn push_step(&self, step: Step, bikes: u16, plan: &mut [u16]) -> Option<usize>
+        ensures { Steps (N.Network.meaning self.now.net.now) bikes step result plan.old plan.new }
     {
-        match last {
-            Last::Start => None,
-            Last::Forth { leg: number } => {
-                let leg = self.net.leg(number)?;
-                let most = in_force(leg);
-                alter(plan, number, |held| held.saturating_add(bikes).min(most));
-                Some(usize::from(leg.start))
-            }
-            Last::Back { leg: number } => {
-                let leg = self.net.leg(number)?;
-                alter(plan, number, |held| held.saturating_sub(bikes));
-                Some(usize::from(leg.end))
-            }
-        }
+        let Step { direction, leg } = step;
+        let load = Load::of(self.net, plan, leg)?;
+        let amount = match direction {
+            Direction::Forth => load.amount.saturating_add(bikes).min(in_force(load.leg)),
+            Direction::Back => load.amount.saturating_sub(bikes),
+        };
+        put(plan, leg, amount);
+        Some(usize::from(load.tail(direction)))
     }
 
     // Sends bikes along the last step into a station, and says where it comes from.
     fn push_into(&self, station: usize, bikes: u16, plan: &mut [u16]) -> Option<usize>
         ensures { StepsInto (N.Network.meaning self.now.net.now) self.now.labels.now station bikes result plan.old plan.new }
     {
-        let arrival = self.arrival_at(station)?;
-        self.push_step(arrival.last, bikes, plan)
+        let step = self.arrival_at(station)?.last?;
+        self.push_step(step, bikes, plan)
     }
 
     // Sends bikes along the last steps to a station.
@@ -53,6 +35,7 @@ impl<'a, N: Network> Routes<'a, N> {
         ensures { Along (N.Network.meaning self.now.net.now) self.now.labels.now bikes target plan.old plan.new }
     {
         let mut at = target;
+        // as many turns as `measure` has
         for _turn in 0..=self.net.stations() {
             match self.push_into(at, bikes, plan) {
                 Some(from) => at = from,

@@ -1,16 +1,17 @@
-// What a step over a leg would take and cost, as a plan stands now.
-ghost use Rattle.std.specs.Prelude.{◌≡◌, ℕ, ◌-◌, min, ℤ, pos, negsuc, neg_ℤ, if◌then◌else◌, nat_lt};
+// What a step would take and cost, as a plan stands now.
+ghost use Rattle.std.specs.Prelude.{◌≡◌};
+ghost use Rattle.plans.specs.Plans.{in_force as capacity};
+ghost use Rattle.certificates.specs.Pushes.{room};
 ghost use Rattle.pushing.specs.Routes.{Quotes};
 
 use crate::Routes;
-use chain_search::Last;
 use costs::CentsThenBikes;
 use network::Network;
-use search::joined_leg;
-use steps::{Fees, InBoth, amount_at, in_force};
+use plans::Direction;
+use steps::{Fees, InBoth, Load, Step, amount_at};
 
 // The stations that a step leads from and to, how many bikes it can take, and its cost.
-#[derive(Clone, Copy)]
+#[derive(Clone, Copy, PartialEq, Eq, Debug)]
 pub(crate) struct Quote {
     pub from: usize,
     pub into: usize,
@@ -18,60 +19,37 @@ pub(crate) struct Quote {
     pub cost: CentsThenBikes,
 }
 
-// How many bikes more a leg can take, not past the standing amount.
-fn room_forth(capacity: u16, standing: u16, amount: u16) -> u16
-    ensures { result ≡ (if nat_lt amount standing then min standing capacity else capacity) - amount }
+// How many bikes a step can take, not past the standing amount of its leg where it moves towards that.
+fn room_of(direction: Direction, load: Load, standing: u16) -> u16
+    ensures { result ≡ room direction (capacity load.leg) standing load.amount }
 {
-    let limit = if amount < standing && standing < capacity {
-        standing
-    } else {
-        capacity
+    let residual = load.residual(direction);
+    let short = match direction {
+        Direction::Forth => standing.saturating_sub(load.amount),
+        Direction::Back => load.amount.saturating_sub(standing),
     };
-    limit.saturating_sub(amount)
-}
-
-// How many bikes a leg can lose, not past the standing amount.
-fn room_back(standing: u16, amount: u16) -> u16
-    ensures { result ≡ amount - (if nat_lt standing amount then standing else 0) }
-{
-    if standing < amount {
-        amount - standing
+    if short == 0 {
+        residual
     } else {
-        amount
+        residual.min(short)
     }
 }
 
 impl<'a, N: Network> Routes<'a, N> {
-    // The step of a last step, if it leads from a station to a station. The arms differ in the ends, the room and the
-    // fee: one arm for both would ask for the direction at each.
-    pub(crate) fn quote_of(&self, plan: &[u16], last: Last) -> Option<Quote>
-        ensures { Quotes (N.Network.meaning self.now.net.now) self.now.standing.now plan.now last result }
+    // A step, if it leads from a station to a station.
+    pub(crate) fn quote_of(&self, plan: &[u16], step: Step) -> Option<Quote>
+        ensures { Quotes (N.Network.meaning self.now.net.now) self.now.standing.now plan.now step result }
     {
+        let Step { direction, leg } = step;
+        let load = Load::joined(self.net, plan, leg)?;
         let fees = InBoth {
             standing: self.standing,
         };
-        match last {
-            Last::Start => None,
-            Last::Forth { leg: number } => {
-                let leg = joined_leg(self.net, number)?;
-                let amount = amount_at(plan, number);
-                Some(Quote {
-                    from: usize::from(leg.start),
-                    into: usize::from(leg.end),
-                    room: room_forth(in_force(leg), amount_at(self.standing, number), amount),
-                    cost: fees.forth(number, leg, amount),
-                })
-            }
-            Last::Back { leg: number } => {
-                let leg = joined_leg(self.net, number)?;
-                let amount = amount_at(plan, number);
-                Some(Quote {
-                    from: usize::from(leg.end),
-                    into: usize::from(leg.start),
-                    room: room_back(amount_at(self.standing, number), amount),
-                    cost: fees.back(number, leg, amount),
-                })
-            }
-        }
+        Some(Quote {
+            from: usize::from(load.tail(direction)),
+            into: usize::from(load.head(direction)),
+            room: room_of(direction, load, amount_at(self.standing, leg)),
+            cost: fees.fee(direction, load),
+        })
     }
 }

@@ -1,7 +1,5 @@
-use Rattle.std.proofs.Common.{◌≡◌, pos, ap, ◌∙◌, arith, w32, w64, SFits, to_z, of_z, rules}
-use Rattle.std.specs.Option.{unwrap_or}
+use Rattle.std.proofs.Common.{◌≡◌, ◌∙◌, arith, w32, w64, SFits, to_z, of_z, rules}
 use Rattle.std.proofs.lemmas.Int.{ints, to_z-of_z}
-use Rattle.std.proofs.lemmas.Option.{unwrap_or-slice_get}
 use Rattle.first_plan.proofs.Moving.{written_more}
 use Rattle.first_plan.proofs.laying.write_balances.Goals as goal
 
@@ -9,8 +7,7 @@ pub loop-station-preserved : goal.loop-station-preserved
 loop-station-preserved g c =
     let net = g.N.Network.meaning c.args.net.now in
     let i = c.loop-station.station in
-    let f32 : SFits w32 c.unwrap_or.result = search rules in
+    let f32 : SFits w32 c.balance_of.result = search rules in
     let f64 : SFits w64 c.from.result = search rules in
-    let same : to_z w64 (of_z w64 c.from.result) ≡ c.unwrap_or.result = to_z-of_z w64 c.from.result f64 ∙ c.from.ensures ∙ to_z-of_z w32 c.unwrap_or.result f32 in
-    let e = c.unwrap_or.ensures ∙ ap (λ o. unwrap_or o (pos 0)) c.balance.ensures ∙ unwrap_or-slice_get net.balances i (pos 0) in
-    written_more net c.loop-station.left i _ (omega arith) (same ∙ e) (omega (arith, ints, same, f32), omega (arith, ints, same, f32)) c.loop-station.invariant
+    let same : to_z w64 (of_z w64 c.from.result) ≡ c.balance_of.result = to_z-of_z w64 c.from.result f64 ∙ c.from.ensures ∙ to_z-of_z w32 c.balance_of.result f32 in
+    written_more net c.loop-station.left i _ (omega arith) (same ∙ c.balance_of.ensures) (omega (arith, ints, same, f32), omega (arith, ints, same, f32)) c.loop-station.invariant

@@ -5,4 +5,4 @@ use Rattle.pushing.proofs.Routes.measure.Given as goal
 
 -- the last steps from the station on have room
 abbrev pub invariant-loop-turn : goal.invariant-loop-turn
-invariant-loop-turn g l = (l._turn-end ≡ stations (g.N.Network.meaning l.self.net.now)) × Measuring (g.N.Network.meaning l.self.net.now) l.self.standing.now l.plan l.self.labels.now l.target l._turn l.at l.room
+invariant-loop-turn g l = (l._turn-end ≡ stations (g.N.Network.meaning l.self.net.now)) × Measuring (g.N.Network.meaning l.self.net.now) l.self.standing.now l.draft.amounts.now l.self.labels.now l.target l._turn l.at l.room
