@@ -4,7 +4,7 @@ use lib.Signed.{lt_z, mag}
 use Rattle.std.specs.Option.{option_map}
 use Rattle.std.specs.List.{slice_get}
 use Rattle.std.proofs.lemmas.Int.{ints}
-use Rattle.std.proofs.lemmas.Bool.{ne_eqb}
+use Rattle.std.proofs.lemmas.Bool.{ne_eqb, false_from_ne_true}
 use Rattle.std.proofs.lemmas.Option.{get_or_from_slice_get}
 use Rattle.network.proofs.Places.{get_or_none}
 use Rattle.certificates.proofs.Balanced.{total_listed}
@@ -37,10 +37,6 @@ pub uneven_sum : (net : Net) (z : ℤ) → z ≡ total net.balances → mag z < 
 uneven_sum net z e f = uneven_by z f ∙ ap (λ v. not (zero_sum v)) (e ∙ sym (total_listed net))
 
 -- ---- tests that fail
-not_true : (b : Bool) → (b ≡ true → ⊥) → b ≡ false
-not_true true h = absurd (h refl)
-not_true false h = refl
-
 not_both : (b : Bool) → b ≡ false → b ≡ true → ⊥
 not_both b f t = let z : ◌≡◌ {A = ℕ} 0 1 = cc in omega arith
 
@@ -87,8 +83,8 @@ passed net lengths e =
     let r = past_place _ (lowest (too_large net) (stations net)) _ q.1 in
     let s = past_test (uneven net) _ _ r.1 in
     let l = long_enough net lengths p.0 in
-    let leg = λ (k : ℕ) (h : k < length net.legs). sense (stations net) (leg_at net k) (not_true (senseless net k) (none_below (senseless net) (length net.legs) q.0 k h)) in
-    let b = λ (v : ℕ) (h : v < stations net). within (balance_at net v) (not_true (too_large net v) (none_below (too_large net) (stations net) r.0 v h)) in
+    let leg = λ (k : ℕ) (h : k < length net.legs). sense (stations net) (leg_at net k) (false_from_ne_true (senseless net k) (none_below (senseless net) (length net.legs) q.0 k h)) in
+    let b = λ (v : ℕ) (h : v < stations net). within (balance_at net v) (false_from_ne_true (too_large net v) (none_below (too_large net) (stations net) r.0 v h)) in
     record {
       prices_suffice = l.0;
       cut_suffices = l.1;

@@ -4,17 +4,8 @@ ghost use Rattle.plans.specs.Plans.{stations as count_of};
 ghost use Rattle.checks.specs.Checks.{lowest, senseless, senseless_leg, too_large, too_short, uneven};
 
 use crate::lengths::Lengths;
-use network::{MOST_LEGS, MOST_STATIONS, Network, balance_of, total_balance};
-use records::Leg;
-
-// No leg may carry more bikes.
-const MOST_CAPACITY: u16 = 500;
-
-// No bike may cost more cents on a leg.
-const MOST_CHARGE: u32 = 10_000;
-
-// No balance may be further from 0.
-const MOST_BALANCE: i32 = 120_000;
+use network::{Network, balance_of, total_balance};
+use records::{Leg, MOST_BALANCE, MOST_CAPACITY, MOST_CHARGE, MOST_LEGS, MOST_STATIONS};
 
 // Whether a slice has fewer entries than there are stations, or a working table is not made for every network.
 pub(crate) fn is_too_short<N: Network>(net: &N, lengths: Lengths) -> bool

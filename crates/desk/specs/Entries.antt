@@ -16,10 +16,10 @@ pub record Holds (stations legs : ℕ) (desk : Desk) : Type 0 where
 
 -- with what the desk has in them
 pub record Lent (desk : Desk) (tables : Tables) : Type 0 where
-  pub amounts : tables.amounts.now ≡ desk.amounts.items
+  pub amounts : tables.draft.amounts.now ≡ desk.amounts.items
   pub labels : tables.labels.now ≡ desk.labels.items
   pub cents : tables.cents.now ≡ desk.cents.items
-  pub heads : tables.heads.now ≡ desk.heads.items
-  pub left : tables.left.now ≡ desk.left.items
+  pub heads : tables.chains.heads.now ≡ desk.heads.items
+  pub left : tables.draft.left.now ≡ desk.left.items
   pub marks : tables.marks.now ≡ desk.marks.items
-  pub nexts : tables.nexts.now ≡ desk.nexts.items
+  pub nexts : tables.chains.nexts.now ≡ desk.nexts.items

@@ -4,12 +4,14 @@
 ghost use Rattle.std.specs.Prelude.{◌≡◌, IfOk};
 ghost use Rattle.desk.specs.Entries.{Holds, Lent};
 
-use chain_search::{Label, Links};
+use chain_search::{Chains, Label, Links};
 use costs::{Cents, CentsThenBikes};
+use draft::Draft;
 use planning::Tables;
 use std::alloc::{AllocError, Global};
 
-// Five tables with entries for stations, two with entries for legs.
+// Five tables with entries for stations, two with entries for legs. Seven vectors side by side: the structs that tables are grouped
+// in when lent hold slices of others' memory.
 #[derive(Drop)]
 pub struct Desk {
     amounts: Vec<u16>,
@@ -49,13 +51,17 @@ impl Desk {
         ensures { Lent self.old result }
     {
         Tables {
-            amounts: self.amounts.as_mut_slice(),
+            draft: Draft {
+                amounts: self.amounts.as_mut_slice(),
+                left: self.left.as_mut_slice(),
+            },
             labels: self.labels.as_mut_slice(),
             cents: self.cents.as_mut_slice(),
-            heads: self.heads.as_mut_slice(),
-            left: self.left.as_mut_slice(),
+            chains: Chains {
+                heads: self.heads.as_mut_slice(),
+                nexts: self.nexts.as_mut_slice(),
+            },
             marks: self.marks.as_mut_slice(),
-            nexts: self.nexts.as_mut_slice(),
         }
     }
 }
@@ -69,12 +75,12 @@ mod tests {
     fn a_desk_is_made(rt: HostRuntime) {
         let mut desk = Desk::new(rt.alloc(), 3, 5).expect(&rt, "there is memory");
         let tables = desk.lend();
-        assert_eq!(rt; tables.amounts.len(), 5);
+        assert_eq!(rt; tables.draft.amounts.len(), 5);
         assert_eq!(rt; tables.labels.len(), 3);
         assert_eq!(rt; tables.cents.len(), 3);
-        assert_eq!(rt; tables.heads.len(), 3);
-        assert_eq!(rt; tables.left.len(), 3);
+        assert_eq!(rt; tables.chains.heads.len(), 3);
+        assert_eq!(rt; tables.draft.left.len(), 3);
         assert_eq!(rt; tables.marks.len(), 3);
-        assert_eq!(rt; tables.nexts.len(), 5);
+        assert_eq!(rt; tables.chains.nexts.len(), 5);
     }
 }

@@ -1,32 +1,22 @@
 -- What is printed, by what planning answers.
---   accepted_printed   a best plan is told
 --   denied_printed     a refusal of the planning is told
 --   whole_printed      the tables are those of the largest network
-use Rattle.std.proofs.Common.{◌≡◌, ℕ, List, [], ◌++◌, length, take, ℤ, IfOk, Some, None, Ok, Err, Option, Result, sym, ap, ◌∙◌, subst, inl, inr, arith}
+use Rattle.std.proofs.Common.{◌≡◌, ℕ, List, length, take, ℤ, IfOk, Some, None, Ok, Err, Option, Result, sym, ap, ◌∙◌, subst, inr, arith}
 use Rattle.std.proofs.lemmas.List.{length-take-le}
 use Rattle.records.specs.Refusals.{number, place}
 use Rattle.records.specs.declared.refusal.Refusal.{Refusal}
 use Rattle.network.specs.Nets.{Net}
-use Rattle.plans.specs.Plans.{cents, CheapestThenNearest}
 use Rattle.checks.specs.Checks.{checked}
 use Rattle.checks.specs.declared.lengths.Lengths.{Lengths}
 use Rattle.planning.specs.Planned.{lengths_of, Refused as Denied}
 use Rattle.planning.specs.declared.tables.Tables.{Tables}
 use Rattle.desk.specs.Entries.{Holds, Lent}
 use Rattle.desk.specs.declared.Desk.{Desk}
-use Rattle.plan_answers.specs.Printed.{whole_lengths, cents_line, leg_lines, PrintsNet}
+use Rattle.plan_answers.specs.Printed.{whole_lengths, PrintsNet}
 use Rattle.answers.specs.Answered.{refusal_line}
 
 abbrev line_of : Refusal → List ℕ
 line_of e = refusal_line (number e) (place e)
-
-pub accepted_printed : {X Y : Type 0} (r : Result X Y) (bytes : X → List ℕ) (net : Net) (deserved : Option Refusal) (c : ℕ) (plan : List ℕ)
-    → deserved ≡ None → CheapestThenNearest net [] plan → c ≡ cents net plan
-    → IfOk r (λ s. bytes s ≡ cents_line c ++ leg_lines net plan) → IfOk r (λ s. PrintsNet net deserved (bytes s))
-accepted_printed (Ok x) bytes net None c plan passed best costs h =
-    inl (record { plan = plan; best = best; told = h ∙ ap (λ k. cents_line k ++ leg_lines net plan) costs })
-accepted_printed (Ok x) bytes net (Some e) c plan passed best costs h = let z : ◌≡◌ {A = ℕ} 0 1 = cc in absurd (omega arith)
-accepted_printed (Err y) bytes net deserved c plan passed best costs h = tt
 
 pub denied_printed : {X Y : Type 0} (r : Result X Y) (bytes : X → List ℕ) (net : Net) (deserved : Option Refusal) (e : Refusal)
     (prices prices' : List ℤ) (cut cut' : List ℕ) → Denied net deserved e prices prices' cut cut'
@@ -49,11 +39,11 @@ whole_printed r bytes net prices cut desk tables p c h l =
     let ls : Lengths = lengths_of prices cut tables in
     let labels : length tables.labels.now ≡ 240 = ap length l.labels ∙ h.labels in
     let cents : length tables.cents.now ≡ 240 = ap length l.cents ∙ h.cents in
-    let heads : length tables.heads.now ≡ 240 = ap length l.heads ∙ h.heads in
-    let left : length tables.left.now ≡ 240 = ap length l.left ∙ h.left in
+    let heads : length tables.chains.heads.now ≡ 240 = ap length l.heads ∙ h.heads in
+    let left : length tables.draft.left.now ≡ 240 = ap length l.left ∙ h.left in
     let marks : length tables.marks.now ≡ 240 = ap length l.marks ∙ h.marks in
-    let amounts : length tables.amounts.now ≡ 3000 = ap length l.amounts ∙ h.amounts in
-    let nexts : length tables.nexts.now ≡ 3000 = ap length l.nexts ∙ h.nexts in
+    let amounts : length tables.draft.amounts.now ≡ 3000 = ap length l.amounts ∙ h.amounts in
+    let nexts : length tables.chains.nexts.now ≡ 3000 = ap length l.nexts ∙ h.nexts in
     let station_entries : ls.station_entries ≡ 240 = omega arith in
     let leg_entries : ls.leg_entries ≡ 3000 = omega arith in
     let whole : ls ≡ whole_lengths = λ i. record { prices = p i; cut = c i; station_entries = station_entries i; leg_entries = leg_entries i } in

@@ -1,5 +1,6 @@
 // The lines that `plan_once` prints.
-ghost use Rattle.std.specs.Prelude.{◌≡◌, ◌++◌, IfOk, string_bytes, OnOk};
+ghost use Rattle.std.specs.Prelude.{◌≡◌, ◌++◌, IfOk, string_bytes};
+ghost use Rattle.writer.specs.Canonical.{Appends};
 ghost use Rattle.planning.specs.Planned.{the_plan};
 ghost use Rattle.plan_answers.specs.Printed.{cents_line, leg_line, leg_lines};
 
@@ -11,7 +12,7 @@ use text_rules::id_of;
 
 // Appends the line of a leg and its bikes.
 fn write_leg(out: &mut String, leg: &Leg, bikes: u16) -> Result<(), AllocError>
-    ensures { OnOk result (string_bytes out.new ≡ string_bytes out.old ++ leg_line leg.now bikes) }
+    ensures { Appends result out.old out.new (leg_line leg.now bikes) }
 {
     let source = id_of(leg.start);
     let target = id_of(leg.end);
@@ -19,8 +20,9 @@ fn write_leg(out: &mut String, leg: &Leg, bikes: u16) -> Result<(), AllocError>
 }
 
 // Appends the line of each leg of a network, with its bikes.
+// Over numbers: a network is asked by number, and after a closure of `for_each` a proof knows nothing of what it wrote.
 fn write_legs<N: Network>(out: &mut String, net: &N, amounts: &[u16]) -> Result<(), AllocError>
-    ensures { OnOk result (string_bytes out.new ≡ string_bytes out.old ++ leg_lines (N.Network.meaning net.now) (the_plan (N.Network.meaning net.now) amounts.now)) }
+    ensures { Appends result out.old out.new (leg_lines (N.Network.meaning net.now) (the_plan (N.Network.meaning net.now) amounts.now)) }
 {
     for number in 0..net.legs() {
         let Some(leg) = net.leg(number) else {
@@ -38,7 +40,7 @@ fn write_plan<N: Network>(
     cents: u64,
     amounts: &[u16],
 ) -> Result<(), AllocError>
-    ensures { OnOk result (string_bytes out.new ≡ string_bytes out.old ++ (cents_line cents ++ leg_lines (N.Network.meaning net.now) (the_plan (N.Network.meaning net.now) amounts.now))) }
+    ensures { Appends result out.old out.new (cents_line cents ++ leg_lines (N.Network.meaning net.now) (the_plan (N.Network.meaning net.now) amounts.now)) }
 {
     writeln!(out, "s {cents}")?;
     write_legs(out, net, amounts)

@@ -12,9 +12,10 @@ mod plan_once;
 pub use answer_lines::plan_text;
 pub use answers::refusal_text;
 use desk::Desk;
-use network::{MOST_LEGS, MOST_STATIONS, Network};
+use network::Network;
 pub use plan_once::{PlanOnce, answer_text};
 use planning::Tables;
+use records::{MOST_LEGS, MOST_STATIONS};
 use std::alloc::{AllocError, Global};
 
 // What is printed for a network, by planning in these slices and tables.
@@ -28,7 +29,7 @@ fn answer_within<N: Network>(
     ensures { IfOk result (λ s. PrintsNet (N.Network.meaning net.now) (checked (N.Network.meaning net.now) (lengths_of prices.old cut.old tables.old)) (string_bytes s)) }
 {
     match planning::plan(net, &[], prices, cut, tables) {
-        Ok((cents, _)) => plan_text(heap, net, cents, tables.amounts),
+        Ok((cents, _)) => plan_text(heap, net, cents, tables.draft.amounts),
         Err(refusal) => refusal_text(heap, refusal),
     }
 }

@@ -10,6 +10,7 @@ use std::io;
 use text_program::{TextAnswer, answer_input};
 
 // The best plan on the network that a text states, or the refusal of the reading or of the planning.
+// A struct for this program, and no impl for every `NetworkAnswer`: so it prints what `answer_text` promises, in the same word.
 struct Once;
 
 impl TextAnswer for Once {

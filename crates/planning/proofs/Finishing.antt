@@ -1,42 +1,38 @@
 -- How a planning begins and ends.
-use Rattle.std.proofs.Common.{◌≡◌, ℕ, zero, suc, ◌<◌, ◌≤◌, Bool, true, false, List, length, take, drop, ℤ, pos, negsuc, ◌≤ℤ◌, None, Ok, Err, Result, sym, refl, subst, inl, inr, arith, length-take-le}
+use Rattle.std.proofs.Common.{◌≡◌, ℕ, zero, suc, ◌<◌, ◌≤◌, List, length, take, ℤ, pos, negsuc, ◌≤ℤ◌, None, sym, refl, arith}
 use native.Mathlib.Decide.{ℕ_discrete}
 use borrow.Author.Differences.{ints}
-use Rattle.records.specs.declared.refusal.Refusal.{Refusal}
+use Rattle.std.proofs.lemmas.List.{get_or-take, length-take-le}
 use Rattle.network.specs.Nets.{Net, Within}
-use Rattle.plans.specs.Plans.{stations, balance_at, sum_below, Fits, EndsBelow, CheapestThenNearest}
+use Rattle.plans.specs.Plans.{stations, balance_at, sum_below, cents, difference, EndsBelow, CheapestThenNearest}
 use Rattle.plans.specs.Cuts.{Cut, left_over}
-use Rattle.plans.specs.Prices.{CentsRoundTrip}
 use Rattle.plans.proofs.Best
+use Rattle.plans.proofs.Around.{no_cents_trip}
 use Rattle.plans.proofs.Cutting
 use Rattle.certificates.specs.Starts.{level}
 use Rattle.certificates.specs.Totals.{over, total_below}
 use Rattle.certificates.proofs.Starting
 use Rattle.certificates.proofs.Balanced
+use Rattle.draft.specs.declared.Draft.{Draft}
 use Rattle.first_plan.specs.Begins.{Begun}
 use Rattle.checks.specs.Checks.{checked}
 use Rattle.checks.proofs.Passing
-use Rattle.costs.specs.Kinds.{Cents}
-use Rattle.chain_search.specs.Searches.{Enough}
-use Rattle.chain_search.specs.declared.chains.Links.{Links}
+use Rattle.search.specs.Labels.{unlabelled}
 use Rattle.search.specs.declared.label.Label.{Label}
-use Rattle.prices.specs.Priced.{Prices}
-use Rattle.chain_prices.specs.Priced.{Priced}
+use Rattle.search.specs.declared.outcome.Outcome.{Outcome}
+use Rattle.search.specs.declared.outcome.Outcome.TheVariants.{Settled, RoundTrip}
+use Rattle.prices.specs.Priced.{Written}
 use Rattle.pushing.specs.Sends.{Both}
-use Rattle.planning.specs.Planned.{Impossible, SameTables, lengths_of}
+use Rattle.planning.specs.Planned.{Accepted, Impossible, SameTables, lengths_of}
 use Rattle.planning.specs.Reached.{reached_below, WritesCut}
-use Rattle.planning.specs.States.{the_plan, Prepared, Underway, UnderwayIn}
+use Rattle.planning.specs.States.{the_plan, Prepared, Underway}
 use Rattle.planning.specs.declared.tables.Tables.{Tables}
-use Rattle.planning.proofs.Sending.{exact}
 
 -- ---- the beginning
-pub begins : (net : Net) (standing before after : List ℕ) (left left' : List ℤ) (total : ℕ) → length net.legs ≤ length after → Begun net standing before after left left' total → Underway net standing (the_plan net after) left' total
-begins net standing before after left left' total h b =
-    let e : length (the_plan net after) ≡ length net.legs = length-take-le (length net.legs) after h in
-    let p = exact net (the_plan net after) e in
+pub begins : (net : Net) (standing : List ℕ) (before after : Draft) (total : ℕ) → Begun net standing before after total → Underway net standing after total
+begins net standing before after total b =
     record {
-      one_each = e;
-      tracks = record { fits = rw p (Starting.fits net standing _ b.first); left_overs = rw p b.left_each };
+      tracks = record { fits = Starting.fits net standing _ b.first; left_overs = b.left_each };
       over_all = b.over_all;
       potential = level;
       certified = Starting.certified net standing _ b.first;
@@ -52,25 +48,34 @@ none_over (pos a) e = omega (arith, ints, e)
 none_over (negsuc a) e = omega (arith, ints)
 
 -- nothing is over, so the plan obeys; it is certified, so it is the best
-finished : (net : Net) (standing plan : List ℕ) (left : List ℤ) → EndsBelow net → total_below (stations net) (balance_at net) ≡ pos 0 → Underway net standing plan left 0 → CheapestThenNearest net standing plan
-finished net standing plan left e t u =
-    let fit : Fits net plan = subst (Fits net) (exact net plan u.one_each) u.tracks.fits in
+finished : (net : Net) (standing : List ℕ) (draft : Draft) → EndsBelow net → total_below (stations net) (balance_at net) ≡ pos 0 → Underway net standing draft 0 → CheapestThenNearest net standing (the_plan net draft.amounts.now)
+finished net standing draft e t u =
+    let plan = the_plan net draft.amounts.now in
     let low : (v : ℕ) → v < stations net → left_over net plan v ≤ℤ pos 0 = λ v h. none_over (left_over net plan v) (no_part (stations net) (λ w. over (left_over net plan w)) (sym u.over_all) v h) in
-    Best.best net standing plan u.potential e (Balanced.none_over net plan e fit t low) u.certified
+    Best.best net standing plan u.potential e (Balanced.none_over net plan e u.tracks.fits t low) u.certified
 
--- with slices that are long enough, and no round trip below zero, prices are written
-pub written : (net : Net) (plan : List ℕ) (r : Result Bool Refusal) (ls ls' : List (Label Cents)) (hs hs' ns ns' : List Links) (ps ps' : List ℤ) → Enough net ls hs ns → stations net ≤ length ps → (CentsRoundTrip net plan → ⊥)
-    → Priced net plan r ls ls' hs hs' ns ns' ps ps' → Prices net plan ps' × (drop (stations net) ps' ≡ drop (stations net) ps)
-written net plan (Ok true) ls ls' hs hs' ns ns' ps ps' e h n p = (p.3.1, p.3.2)
-written net plan (Ok false) ls ls' hs hs' ns ns' ps ps' e h n p = absurd (n p.3.0)
-written net plan (Err x) ls ls' hs hs' ns ns' ps ps' e h n p =
-    elim p.0 [ inl q ↦ elim q [ inl a ↦ absurd (omega (arith, a, e.0)) | inr b ↦ elim b [ inl a ↦ absurd (omega (arith, a, e.1)) | inr a ↦ absurd (omega (arith, a, e.2)) ] ] | inr q ↦ absurd (omega (arith, q, h)) ]
+-- of the best plan, prices are written
+module _ (net : Net) (standing plan amounts : List ℕ) (e : plan ≡ the_plan net amounts) (b : CheapestThenNearest net standing (the_plan net amounts)) (o : Outcome) (ps ps' : List ℤ) (w : Written net plan o ps ps') where
+  pub accepted : (c d : ℕ) (cut : List ℕ) → o ≡ Settled → c ≡ cents net plan → d ≡ difference net standing plan → Accepted net standing (the_plan net amounts) c d ps ps' cut cut
+  accepted c d cut q x y =
+      let w' : Written net (the_plan net amounts) Settled ps ps' = rw (e, q) at w in
+      record { best = b; costs = rw e at x; differs = rw e at y; priced = w'.1; prices_beyond = w'.2; cut_stays = refl }
+
+  pub never_trip : o ≡ RoundTrip → ⊥
+  never_trip q = let w' : Written net (the_plan net amounts) RoundTrip ps ps' = rw (e, q) at w in no_cents_trip net standing (the_plan net amounts) b w'.0
+
+-- the first n labels say what all do of the stations below n
+reached_taken : (n i : ℕ) (ls : List (Label Both)) → i ≤ n → reached_below (take n ls) i ≡ reached_below ls i
+reached_taken n zero ls h = refl
+reached_taken n (suc i) ls h = rw (reached_taken n i ls (omega (arith, h)), get_or-take n ls i unlabelled (omega (arith, h))) refl
 
 -- the cut that is written shows that no plan obeys
-pub impossible : (net : Net) (count : ℕ) (ls : List (Label Both)) (prices : List ℤ) (cut cut' : List ℕ) → EndsBelow net → stations net ≤ length cut → Cut net (reached_below ls (stations net)) → WritesCut (stations net) ls count cut cut' → Impossible net count prices prices cut cut'
-impossible net count ls prices cut cut' e h c w =
-    let v : Cut net (take count cut') = rw w.written c in
-    record { none_obeys = Cutting.excludes net (take count cut') e v; room = omega (arith, w.few, w.long, h); is_cut = v; cut_beyond = w.beyond; prices_stay = refl }
+pub impossible : (net : Net) (count : ℕ) (ls : List (Label Both)) (prices : List ℤ) (cut cut' : List ℕ) → EndsBelow net → stations net ≤ length cut → stations net ≤ length ls → Cut net (reached_below ls (stations net)) → WritesCut (length (take (stations net) ls)) (take (stations net) ls) count cut cut' → Impossible net count prices prices cut cut'
+impossible net count ls prices cut cut' e h l c w =
+    let n = stations net in
+    let w' : WritesCut n (take n ls) count cut cut' = rw (length-take-le n ls l) at w in
+    let v : Cut net (take count cut') = rw (w'.written, reached_taken n n ls (omega arith)) c in
+    record { none_obeys = Cutting.excludes net (take count cut') e v; room = omega (arith, w'.few, w'.long, h); is_cut = v; cut_beyond = w'.beyond; prices_stay = refl }
 
 -- ---- checks passed
 -- what the checks settle
@@ -82,18 +87,18 @@ prepared net prices cut before tables w e t =
     let n = w.few_stations in
     let m = w.few_legs in
     record {
-      amounts = omega (arith, b, m, t.amounts.long);
+      amounts = omega (arith, b, m, t.draft.amounts.long);
       labels = omega (arith, a, n, t.labels.long);
       cents = omega (arith, a, n, t.cents.long);
-      heads = omega (arith, a, n, t.heads.long);
-      left = omega (arith, a, n, t.left.long);
+      heads = omega (arith, a, n, t.chains.heads.long);
+      left = omega (arith, a, n, t.draft.left.long);
       marks = omega (arith, a, n, t.marks.long);
-      nexts = omega (arith, b, m, t.nexts.long);
+      nexts = omega (arith, b, m, t.chains.nexts.long);
       ends_below = p.ends_below;
     }
 
 -- and no bike is over
-pub best : (net : Net) (standing : List ℕ) (prices : List ℤ) (cut : List ℕ) (before tables : Tables) → checked net (lengths_of prices cut before) ≡ None → UnderwayIn net standing tables 0 → CheapestThenNearest net standing (the_plan net tables.amounts.now)
+pub best : (net : Net) (standing : List ℕ) (prices : List ℤ) (cut : List ℕ) (before tables : Tables) → checked net (lengths_of prices cut before) ≡ None → Underway net standing tables.draft 0 → CheapestThenNearest net standing (the_plan net tables.draft.amounts.now)
 best net standing prices cut before tables e u =
     let p = (Passing.say net (lengths_of prices cut before)).0 e in
-    finished net standing (the_plan net tables.amounts.now) tables.left.now p.ends_below p.even u
+    finished net standing tables.draft p.ends_below p.even u

@@ -1,48 +1,41 @@
 -- Tables that stay the same slices, and so as long as they were.
-use Rattle.std.proofs.Common.{ℕ, List, ℤ, refl, ◌∙◌}
-use Rattle.std.specs.Borrow.{MutBor}
-use Rattle.planning.specs.Planned.{SameSlice, SameTables}
+pub use Rattle.plans.proofs.Lending.{same_slice, slice_twice}
+use Rattle.draft.specs.declared.Draft.{Draft}
+use Rattle.draft.specs.Drafts.{SameDraft}
+use Rattle.chain_search.specs.declared.chains.Chains.{Chains}
+use Rattle.chain_search.specs.Chains.{SameChains}
+use Rattle.planning.specs.Planned.{SameTables}
 use Rattle.planning.specs.declared.tables.Tables.{Tables}
 
-pub same_slice : {A : Type 0} (a : MutBor (List A)) → SameSlice a a
-same_slice a = record { name = refl; long = refl }
+pub draft_twice : {a b c : Draft} → SameDraft a b → SameDraft b c → SameDraft a c
+draft_twice p q = record { amounts = slice_twice p.amounts q.amounts; left = slice_twice p.left q.left }
 
-pub slice_twice : {A : Type 0} {a b c : MutBor (List A)} → SameSlice a b → SameSlice b c → SameSlice a c
-slice_twice p q = record { name = q.name ∙ p.name; long = q.long ∙ p.long }
+same_chains : (a : Chains) → SameChains a a
+same_chains a = record { heads = same_slice a.heads; nexts = same_slice a.nexts }
 
-pub same_tables : (a : Tables) → SameTables a a
-same_tables a =
+chains_twice : {a b c : Chains} → SameChains a b → SameChains b c → SameChains a c
+chains_twice p q = record { heads = slice_twice p.heads q.heads; nexts = slice_twice p.nexts q.nexts }
+
+-- the first plan and what it leaves over are written
+pub same_but : (a : Tables) {draft : Draft} → SameDraft a.draft draft → SameTables a (record a { draft = draft })
+same_but a p =
     record {
-      amounts = same_slice a.amounts;
+      draft = p;
       labels = same_slice a.labels;
       cents = same_slice a.cents;
-      heads = same_slice a.heads;
-      left = same_slice a.left;
+      chains = same_chains a.chains;
       marks = same_slice a.marks;
-      nexts = same_slice a.nexts;
     }
+
+pub same_tables : (a : Tables) → SameTables a a
+same_tables a = same_but a (record { amounts = same_slice a.draft.amounts; left = same_slice a.draft.left })
 
 pub same_twice : {a b c : Tables} → SameTables a b → SameTables b c → SameTables a c
 same_twice p q =
     record {
-      amounts = slice_twice p.amounts q.amounts;
+      draft = draft_twice p.draft q.draft;
       labels = slice_twice p.labels q.labels;
       cents = slice_twice p.cents q.cents;
-      heads = slice_twice p.heads q.heads;
-      left = slice_twice p.left q.left;
+      chains = chains_twice p.chains q.chains;
       marks = slice_twice p.marks q.marks;
-      nexts = slice_twice p.nexts q.nexts;
-    }
-
--- the first plan and what it leaves over are written
-pub same_but : (a : Tables) {amounts : MutBor (List ℕ)} {left : MutBor (List ℤ)} → SameSlice a.amounts amounts → SameSlice a.left left → SameTables a (record a { amounts = amounts; left = left })
-same_but a p q =
-    record {
-      amounts = p;
-      labels = same_slice a.labels;
-      cents = same_slice a.cents;
-      heads = same_slice a.heads;
-      left = q;
-      marks = same_slice a.marks;
-      nexts = same_slice a.nexts;
     }

@@ -4,29 +4,28 @@ use native.Mathlib.Decide.{ℕ_discrete}
 use Rattle.std.specs.List.{AllByRecursion}
 use Rattle.std.proofs.ByRecursion.{All-append}
 use Rattle.std.proofs.lemmas.List.{append-nil}
-use Rattle.std.proofs.lemmas.Bool.{both_ways, eq-eqb, eqb-true, or_cases, or_right}
+use Rattle.std.proofs.lemmas.Bool.{both_ways, eqb-true, or_cases, or_right}
 use Rattle.network.specs.Nets.{Net}
-use Rattle.theory.specs.Groups.{OrderedGroup}
-use Rattle.theory.specs.Walks.{Walk, start, step, Absent, Distinct}
+use Rattle.theory.specs.declared.Grouped.{Ghosts as Kind}
+use Rattle.theory.specs.Walks.{Walk, start, step, Distinct}
 use Rattle.plans.specs.Plans.{stations, Fits, EndsBelow}
-use Rattle.plans.specs.Residuals.{Direction, Step}
+use Rattle.plans.specs.declared.direction.Direction.{Direction}
 use Rattle.plans.specs.Cuts.{among, Cut, left_over, Uncrossed}
 use Rattle.plans.proofs.Cutting.{is_cut}
+use Rattle.plans.proofs.Sums.{absent_push, among_last}
 use Rattle.search.specs.Labels.{label_at}
-use Rattle.search.specs.Searches.{Over, From, Settles}
+use Rattle.steps.specs.declared.load.Load.{Load}
+use Rattle.steps.specs.Fees.{paid}
+use Rattle.search.specs.Searches.{From, StepOf, OverOf, Settles, fee_worth}
 use Rattle.search.specs.declared.label.Label.{Label}
 use Rattle.search.proofs.Optional.{option_cases}
 use Rattle.search.proofs.Stepping.{ends}
 use Rattle.planning.specs.Reached.{is_there, reached, reached_below}
 
 -- ---- lists by rising number
-absent_more : (v w : ℕ) (us : List ℕ) → Absent v us → (v ≡ w → ⊥) → Absent v (us ++ (w ∷ []))
-absent_more v w [] a n = (n, tt)
-absent_more v w (u ∷ us) a n = (a.0, absent_more v w us a.1 n)
-
 distinct_more : (w : ℕ) (us : List ℕ) → Distinct us → AllByRecursion (λ u. u < w) us → Distinct (us ++ (w ∷ []))
 distinct_more w [] d h = (tt, tt)
-distinct_more w (u ∷ us) d h = (absent_more u w us d.0 (λ e. omega (arith, h.0)), distinct_more w us d.1 h.1)
+distinct_more w (u ∷ us) d h = (absent_push u w us d.0 (λ e. omega (arith, h.0)), distinct_more w us d.1 h.1)
 
 all_wider : (m : ℕ) (us : List ℕ) → AllByRecursion (λ u. u < m) us → AllByRecursion (λ u. u < suc m) us
 all_wider m [] h = tt
@@ -45,10 +44,6 @@ among_more v w (u ∷ us) t h =
 among_before : (v : ℕ) (us ws : List ℕ) → among v us ≡ true → among v (us ++ ws) ≡ true
 among_before v [] ws h = absurd (both_ways false refl h)
 among_before v (u ∷ us) ws h = elim (or_cases (eqb v u) (among v us) h) [ inl e ↦ rw e refl | inr e ↦ or_right (eqb v u) _ (among_before v us ws e) ]
-
-among_last : (v : ℕ) (us : List ℕ) → among v (us ++ (v ∷ [])) ≡ true
-among_last v [] = rw (eq-eqb v v refl) refl
-among_last v (u ∷ us) = or_right (eqb v u) _ (among_last v us)
 
 module _ {C : Type 0} (ls : List (Label C)) where
   rising_more : (i : ℕ) (us : List ℕ) (t : Bool) → AllByRecursion (λ u. u < i) us → AllByRecursion (λ u. u < suc i) (us ++ cond t (i ∷ []) [])
@@ -87,22 +82,26 @@ pub there : {X : Type 0} (o : Option X) → is_there o ≡ true → (x : X) × (
 there None h = absurd (both_ways false refl h)
 there (Some x) h = (x, refl)
 
-module _ {C A : Type 0} (G : OrderedGroup A) (worth : C → A) (net : Net) (plan : List ℕ) (cost : Direction → ℕ → A) (f : ℕ → Bool) (ls : List (Label C))
-    (z : Settles G worth (stations net) (From net f) (Step net plan cost) (Over net plan cost) ls) where
+module _ {C : Type 0} (K : Kind C) (net : Net) (plan : List ℕ) (cost : Direction → Load → C) (f : ℕ → Bool) (ls : List (Label C))
+    (z : Settles K (stations net) (From net f) (StepOf K net plan cost) (OverOf K net plan cost) ls) where
+  -- what the steps cost
+  abbrev paid_worth : Direction → ℕ → K.Member
+  paid_worth = paid (fee_worth K net plan cost) net plan
+
   -- where a walk comes to, there is a label
-  walked : (v : ℕ) (us : List ℕ) (t : A) → v < stations net → Walk G (From net f) (Step net plan cost) v us t → reached ls v ≡ true
+  walked : (v : ℕ) (us : List ℕ) (t : K.Member) → v < stations net → Walk K.group (From net f) (StepOf K net plan cost) v us t → reached ls v ≡ true
   walked v us t h w = elim (option_cases (label_at ls v).arrival) [ inl e ↦ absurd (z.unreached v h e us t w) | inr q ↦ rw q.1 refl ]
 
-  uncrossed : Uncrossed net plan cost (reached_below ls (stations net))
+  uncrossed : Uncrossed net plan paid_worth (reached_below ls (stations net))
   uncrossed u v c s h =
       let q = named_reached ls (stations net) u h in
       let x = there (label_at ls u).arrival q.1 in
-      let e = ends net plan cost u v c s in
+      let e = ends net plan paid_worth u v c s in
       reached_named ls (stations net) v e.1 (walked v _ _ e.1 (step (z.least u x.0 q.0 x.1).attained s))
 
   pub shows_cut : EndsBelow net → Fits net plan → ((v : ℕ) → v < stations net → reached ls v ≡ true → pos 0 ≤ℤ left_over net plan v) → (w : ℕ) → w < stations net → f w ≡ true → pos 0 <ℤ left_over net plan w
       → Cut net (reached_below ls (stations net))
   shows_cut e t h w k s p =
-      is_cut net plan cost (reached_below ls (stations net)) e t (rising_distinct ls (stations net)) (below_rising ls (stations net)) uncrossed
+      is_cut net plan paid_worth (reached_below ls (stations net)) e t (rising_distinct ls (stations net)) (below_rising ls (stations net)) uncrossed
       (λ v a. let q = named_reached ls (stations net) v a in h v q.0 q.1)
-      w (reached_named ls (stations net) w k (walked w [] G.zero k (start (k, s)))) p
+      w (reached_named ls (stations net) w k (walked w [] K.group.zero k (start (k, s)))) p

@@ -4,9 +4,7 @@
 --   Refused      a planning that is refused, by the refusal that it deserves before the search
 --   Planned      what a planning answers and leaves
 --   lengths_of   how long the slices and the tables are
---   SameSlice    a slice that is lent stays lent, and keeps its length
---   SameTables   the same of all tables
---   Finishes     what is answered and written once the best plan is found
+--   SameTables   all tables stay lent, and keep their lengths
 --   TurnsEnd     what all turns come to
 use Rattle.std.specs.Prelude.{◌≡◌, ℕ, ◌≤◌, min, List, length, take, drop, ℤ, Some, None, Ok, Err, Option, Result}
 use Rattle.records.specs.declared.refusal.Refusal.{Refusal}
@@ -17,9 +15,11 @@ use Rattle.plans.specs.Cuts.{Cut}
 use Rattle.prices.specs.Priced.{Prices}
 use Rattle.checks.specs.Checks.{checked}
 use Rattle.checks.specs.declared.lengths.Lengths.{Lengths}
-use Rattle.std.specs.Borrow.{MutBor}
+use Rattle.plans.specs.Slices.{SameSlice}
+use Rattle.draft.specs.Drafts.{SameDraft}
+use Rattle.chain_search.specs.Chains.{SameChains}
 pub use Rattle.planning.specs.States.{the_plan}
-use Rattle.planning.specs.States.{UnderwayIn}
+use Rattle.planning.specs.States.{Underway}
 use Rattle.planning.specs.declared.tables.Tables.{Tables}
 
 -- the plan is the best one, c and d are its cents and its difference from the standing plan, the first n prices are those of
@@ -51,15 +51,9 @@ Planned net standing lengths (Ok answer) prices prices' cut cut' amounts =
     (checked net lengths ≡ None) × Accepted net standing (the_plan net amounts) answer.0 answer.1 prices prices' cut cut'
 Planned net standing lengths (Err e) prices prices' cut cut' amounts = Refused net (checked net lengths) e prices prices' cut cut'
 
-pub record Finishes (net : Net) (standing plan : List ℕ) (answer : ℕ × ℕ) (prices prices' : List ℤ) : Type 0 where
-  pub costs : answer.0 ≡ cents net plan
-  pub differs : answer.1 ≡ difference net standing plan
-  pub priced : Prices net plan prices'
-  pub prices_beyond : drop (stations net) prices' ≡ drop (stations net) prices
-
 -- by whether nothing is over in the end, or a turn that moved nothing has shown a cut
 abbrev pub TurnsEnd : Net → List ℕ → Result Unit Refusal → Tables → List ℕ → List ℕ → Type 0
-TurnsEnd net standing (Ok done) tables cut cut' = UnderwayIn net standing tables 0 × (cut' ≡ cut)
+TurnsEnd net standing (Ok done) tables cut cut' = Underway net standing tables.draft 0 × (cut' ≡ cut)
 TurnsEnd net standing (Err e) tables cut cut' = (prices : List ℤ) → Refused net None e prices prices cut cut'
 
 -- the working tables count by the shortest of their kind
@@ -68,20 +62,13 @@ lengths_of prices cut tables =
     record {
       prices = length prices;
       cut = length cut;
-      station_entries = min (min (min (min (length tables.labels.now) (length tables.cents.now)) (length tables.heads.now)) (length tables.left.now)) (length tables.marks.now);
-      leg_entries = min (length tables.amounts.now) (length tables.nexts.now);
+      station_entries = min (min (min (min (length tables.labels.now) (length tables.cents.now)) (length tables.chains.heads.now)) (length tables.draft.left.now)) (length tables.marks.now);
+      leg_entries = min (length tables.draft.amounts.now) (length tables.chains.nexts.now);
     }
 
--- the same slice, with as many entries
-pub record SameSlice {A : Type 0} (before after : MutBor (List A)) : Type 0 where
-  pub name : after.ghost_name ≡ before.ghost_name
-  pub long : length after.now ≡ length before.now
-
 pub record SameTables (before after : Tables) : Type 0 where
-  pub amounts : SameSlice before.amounts after.amounts
+  pub draft : SameDraft before.draft after.draft
   pub labels : SameSlice before.labels after.labels
   pub cents : SameSlice before.cents after.cents
-  pub heads : SameSlice before.heads after.heads
-  pub left : SameSlice before.left after.left
+  pub chains : SameChains before.chains after.chains
   pub marks : SameSlice before.marks after.marks
-  pub nexts : SameSlice before.nexts after.nexts

@@ -1,11 +1,13 @@
 // The stations where a search starts.
 ghost use Rattle.planning.specs.States.{Marking};
 
-// Marks the stations that have bikes over. A number that is missing counts as 0.
-pub(crate) fn mark_over(left: &[i64], marks: &mut [bool])
-    ensures { Marking left.now marks.old marks.new }
+use draft::Draft;
+
+// Marks the stations that have bikes over.
+pub(crate) fn mark_over(draft: &Draft<'_>, marks: &mut [bool])
+    ensures { Marking draft.now.left.now marks.old marks.new }
 {
     for (station, mark) in marks.iter_mut().enumerate() {
-        *mark = left.get(station).is_some_and(|bikes| *bikes > 0);
+        *mark = draft.left_at(station) > 0;
     }
 }

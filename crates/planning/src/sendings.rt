@@ -1,23 +1,23 @@
 // Sendings along the routes that a search has found, to those stations that lack bikes.
+ghost use Rattle.draft.specs.Drafts.{SameDraft};
 ghost use Rattle.planning.specs.States.{SendsAll, SendsSome};
 
 use crate::Planning;
 use chain_search::Label;
 use costs::{CentsThenBikes, Cost};
+use draft::Draft;
 use network::Network;
 use pushing::Routes;
+use slices::{first, put};
 
-// Sends bikes to every station that lacks them and is labelled, and says how many are over then.
-fn send_all<N: Network>(
-    routes: &Routes<'_, N>,
-    mut over: u64,
-    plan: &mut [u16],
-    left: &mut [i64],
-) -> u64
-    ensures { SendsAll (N.Network.meaning routes.now.net.now) routes.now.standing.now routes.now.labels.now over result plan.old plan.new left.old left.new }
+// Sends bikes to every station that lacks them and is labelled, and says how many are over then. Over a range, here and below: a
+// network is asked by number, and of what a closure changes nothing is known after it.
+fn send_all<N: Network>(routes: &Routes<'_, N>, mut over: u64, draft: &mut Draft<'_>) -> u64
+    ensures sends { SendsAll (N.Network.meaning routes.now.net.now) routes.now.standing.now routes.now.labels.now over result draft.old draft.new }
+    ensures stay { SameDraft draft.old draft.new }
 {
     for target in 0..routes.net.stations() {
-        over = over.saturating_sub(routes.send(target, plan, left));
+        over = over.saturating_sub(routes.send(target, draft));
     }
     over
 }
@@ -38,16 +38,11 @@ fn nearer(one: Lacking, other: Lacking) -> Lacking {
     }
 }
 
-// The station with the lowest label among so many, of those that lack bikes and are not marked.
-fn nearest(
-    stations: usize,
-    labels: &[Label<CentsThenBikes>],
-    left: &[i64],
-    marks: &[bool],
-) -> Option<usize> {
+// The station with the lowest label, of those that lack bikes and are not marked.
+fn nearest(labels: &[Label<CentsThenBikes>], draft: &Draft<'_>, marks: &[bool]) -> Option<usize> {
+    let left = &*draft.left;
     labels
         .iter()
-        .take(stations)
         .zip(left)
         .zip(marks)
         .enumerate()
@@ -67,20 +62,19 @@ fn send_nearest<N: Network>(
     routes: &Routes<'_, N>,
     mut over: u64,
     marks: &mut [bool],
-    plan: &mut [u16],
-    left: &mut [i64],
+    draft: &mut Draft<'_>,
 ) -> u64
-    ensures { SendsSome (N.Network.meaning routes.now.net.now) routes.now.standing.now routes.now.labels.now over result plan.old plan.new left.old left.new }
+    ensures sends { SendsSome (N.Network.meaning routes.now.net.now) routes.now.standing.now routes.now.labels.now over result draft.old draft.new }
+    ensures stay { SameDraft draft.old draft.new }
 {
     let stations = routes.net.stations();
+    let labels = first(routes.labels, stations);
     for _ in 0..stations {
-        let Some(next) = nearest(stations, routes.labels, left, marks) else {
+        let Some(next) = nearest(labels, draft, marks) else {
             return over;
         };
-        if let Some(mark) = marks.get_mut(next) {
-            *mark = true;
-        }
-        over = over.saturating_sub(routes.send(next, plan, left));
+        put(marks, next, true);
+        over = over.saturating_sub(routes.send(next, draft));
     }
     over
 }
@@ -92,20 +86,20 @@ impl<'n, 's, N: Network> Planning<'n, 's, N> {
         over: u64,
         labels: &[Label<CentsThenBikes>],
         marks: &mut [bool],
-        plan: &mut [u16],
-        left: &mut [i64],
+        draft: &mut Draft<'_>,
     ) -> u64
-        ensures { SendsAll (N.Network.meaning self.now.net.now) self.now.standing.now labels.now over result plan.old plan.new left.old left.new }
+        ensures sends { SendsAll (N.Network.meaning self.now.net.now) self.now.standing.now labels.now over result draft.old draft.new }
+        ensures stay { SameDraft draft.old draft.new }
     {
         let routes = Routes {
             net: self.net,
             standing: self.standing,
             labels,
         };
-        let less = send_nearest(&routes, over, marks, plan, left);
+        let less = send_nearest(&routes, over, marks, draft);
         if less < over {
             return less;
         }
-        send_all(&routes, over, plan, left)
+        send_all(&routes, over, draft)
     }
 }

@@ -1,12 +1,16 @@
 // What a planning is lent: slices for prices and a cut, and the tables of a desk, of given sizes.
-use chain_search::{Label, Links};
+use chain_search::Chains;
 use desk::Desk;
+use draft::Draft;
 use network::Network;
 use planning::{Tables, plan};
 use records::Refusal;
+use slices::first;
 use std::alloc::{AllocError, Global};
+use stray::{UNTOUCHED, strew};
 
-// How many entries each slice and each table has.
+// How many entries each slice and each table has. Numbers and no constants of the planner: the test states both sides of a limit by
+// itself.
 #[derive(Clone, Copy)]
 pub struct Sizes {
     pub prices: usize,
@@ -48,9 +52,6 @@ const STATION_ENTRIES: usize = 241;
 // No table is lent with more entries for legs.
 const LEG_ENTRIES: usize = 3001;
 
-// What every price and every entry of a cut is before a planning.
-pub const UNTOUCHED: u8 = 77;
-
 // The slices and the desk, all filled with something that no planning may read.
 #[derive(Drop)]
 pub struct Lent {
@@ -60,33 +61,8 @@ pub struct Lent {
     sizes: Sizes,
 }
 
-// A label in the midst of a search.
-fn stray<C>() -> Label<C> {
-    Label {
-        changed: true,
-        ..Label::default()
-    }
-}
-
-// Links that lead astray.
-const ASTRAY: Links = Links {
-    forth: Some(9),
-    back: Some(65535),
-};
-
-// Fills tables with something that no planning may read.
-fn strew(tables: &mut Tables<'_>) {
-    tables.amounts.fill(60000);
-    tables.labels.fill(stray());
-    tables.cents.fill(stray());
-    tables.heads.fill(ASTRAY);
-    tables.left.fill(-5);
-    tables.marks.fill(true);
-    tables.nexts.fill(ASTRAY);
-}
-
-// The first entries of a table, at most so many.
-fn first<T>(table: &mut [T], entries: usize) -> &mut [T] {
+// The first entries of a table, at most so many, to be written.
+fn first_mut<T>(table: &mut [T], entries: usize) -> &mut [T] {
     let count = entries.min(table.len());
     &mut table[..count]
 }
@@ -112,22 +88,24 @@ impl Lent {
     ) -> Result<(u64, u64), Refusal> {
         let sizes = self.sizes;
         let Tables {
-            amounts,
+            draft: Draft { amounts, left },
             labels,
             cents,
-            heads,
-            left,
+            chains: Chains { heads, nexts },
             marks,
-            nexts,
         } = self.desk.lend();
         let mut tables = Tables {
-            amounts: first(amounts, sizes.amounts),
-            labels: first(labels, sizes.labels),
-            cents: first(cents, sizes.cents),
-            heads: first(heads, sizes.heads),
-            left: first(left, sizes.left),
-            marks: first(marks, sizes.marks),
-            nexts: first(nexts, sizes.nexts),
+            draft: Draft {
+                amounts: first_mut(amounts, sizes.amounts),
+                left: first_mut(left, sizes.left),
+            },
+            labels: first_mut(labels, sizes.labels),
+            cents: first_mut(cents, sizes.cents),
+            chains: Chains {
+                heads: first_mut(heads, sizes.heads),
+                nexts: first_mut(nexts, sizes.nexts),
+            },
+            marks: first_mut(marks, sizes.marks),
         };
         plan(
             net,
@@ -140,7 +118,6 @@ impl Lent {
 
     // The plan that an accepted planning left, for so many legs.
     pub(crate) fn planned(&self, legs: usize) -> &[u16] {
-        let amounts = self.desk.amounts();
-        &amounts[..legs.min(amounts.len())]
+        first(self.desk.amounts(), legs)
     }
 }

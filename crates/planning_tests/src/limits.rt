@@ -1,8 +1,8 @@
-// Both sides of every limit, and what a refusal leaves.
+// Both sides of every limit, and what a refusal leaves. Each limit is stated here by itself, by no constant of the planner.
 use crate::lent::Sizes;
 use crate::print;
-use crate::worked::{BALANCES, FROM_1, PAST_1, T, TO_1};
 use records::{Leg, Mark};
+use samples::worked::{FROM_1, PAST_1, STATIONS, T, TO_1, station};
 use std::io;
 
 // The slices for prices and cut: an entry less than there are stations, as many, one more.
@@ -166,7 +166,7 @@ pub(crate) fn slices(rt: &HostRuntime) -> io::Result<()> {
             rt,
             "T",
             &T,
-            &BALANCES,
+            &STATIONS,
             &[],
             Sizes {
                 prices,
@@ -178,7 +178,7 @@ pub(crate) fn slices(rt: &HostRuntime) -> io::Result<()> {
             rt,
             "5 bikes",
             &[TO_1],
-            &[5, -5, 0],
+            &[5, -5, 0].map(station),
             &[],
             Sizes {
                 prices,
@@ -193,7 +193,7 @@ pub(crate) fn slices(rt: &HostRuntime) -> io::Result<()> {
 // Working tables of two lengths.
 pub(crate) fn tables(rt: &HostRuntime) -> io::Result<()> {
     for (name, sizes) in TABLES {
-        print::on_table(rt, name, &T, &BALANCES, &[], sizes)?;
+        print::on_table(rt, name, &T, &STATIONS, &[], sizes)?;
     }
     Ok(())
 }
@@ -201,7 +201,14 @@ pub(crate) fn tables(rt: &HostRuntime) -> io::Result<()> {
 // A leg behind one that is sensible.
 pub(crate) fn legs(rt: &HostRuntime) -> io::Result<()> {
     for (name, leg) in LEGS {
-        print::on_table(rt, name, &[TO_1, leg], &[504, -4, -500], &[], Sizes::THREE)?;
+        print::on_table(
+            rt,
+            name,
+            &[TO_1, leg],
+            &[504, -4, -500].map(station),
+            &[],
+            Sizes::THREE,
+        )?;
     }
     Ok(())
 }
@@ -209,7 +216,7 @@ pub(crate) fn legs(rt: &HostRuntime) -> io::Result<()> {
 // Two stations with no leg between them.
 pub(crate) fn balances(rt: &HostRuntime) -> io::Result<()> {
     for (name, pair) in BALANCED {
-        print::on_table(rt, name, &[], &pair, &[], Sizes::THREE)?;
+        print::on_table(rt, name, &[], &pair.map(station), &[], Sizes::THREE)?;
     }
     Ok(())
 }
@@ -270,7 +277,14 @@ const FAULTS: [(&str, [Leg; 2], [i32; 3], Sizes); 8] = [
 // The faults, one after another.
 pub(crate) fn order(rt: &HostRuntime) -> io::Result<()> {
     for (name, [one, two], balances, sizes) in FAULTS {
-        print::on_table(rt, name, &[TO_1, one, two], &balances, &[], sizes)?;
+        print::on_table(
+            rt,
+            name,
+            &[TO_1, one, two],
+            &balances.map(station),
+            &[],
+            sizes,
+        )?;
     }
     Ok(())
 }
@@ -286,7 +300,7 @@ pub(crate) fn largest_balance(rt: &HostRuntime) -> io::Result<()> {
         rt,
         "120,000 bikes",
         &legs,
-        &[120_000, 0, -120_000],
+        &[120_000, 0, -120_000].map(station),
         &[],
         Sizes::THREE,
     )?;
@@ -295,7 +309,7 @@ pub(crate) fn largest_balance(rt: &HostRuntime) -> io::Result<()> {
         rt,
         "room for 119,999",
         &legs,
-        &[120_000, 0, -120_000],
+        &[120_000, 0, -120_000].map(station),
         &[],
         Sizes::THREE,
     )

@@ -2,7 +2,7 @@
 // The lines are compared with the file `stdout`.
 #![tactic(auto)]
 
-mod generator;
+mod drawing;
 mod lent;
 mod limits;
 mod print;

@@ -38,20 +38,17 @@ pub(crate) fn planning<N: Network>(
     println!(rt; "  cut {cut:?}")
 }
 
-// The same on a table of legs and balances.
+// The same on a table of legs and stations.
 pub(crate) fn on_table(
     rt: &HostRuntime,
     name: &str,
     legs: &[Leg],
-    balances: &[i32],
+    stations: &[Station],
     standing: &[u16],
     sizes: Sizes,
 ) -> io::Result<()> {
     let mut records = Vec::from_slice(rt.alloc(), legs)?;
-    let mut stations = Vec::new(rt.alloc());
-    for balance in balances {
-        stations.push(Station { balance: *balance })?;
-    }
+    let mut stations = Vec::from_slice(rt.alloc(), stations)?;
     let table = Table {
         legs: records.as_mut_slice(),
         stations: stations.as_mut_slice(),

@@ -1,12 +1,14 @@
 // Tiny networks drawn at random, each planned and held against all plans that there are.
-use crate::generator::{Generator, add};
+use crate::drawing::{add, draw_leg};
 use crate::lent::{Lent, Sizes};
 use crate::rules;
 use crate::verdicts::{is_sound, names_cut, sum_of};
 use network::Network;
-use records::{Leg, Mark, Refusal, Station};
+use records::{Leg, Refusal, Station};
+use samples::Generator;
+use samples::worked::shut;
 use std::alloc::{AllocError, Global};
-use std::io;
+use std::{array, io};
 use table::Table;
 
 // How many networks are drawn.
@@ -40,20 +42,16 @@ fn draw(heap: Global, generator: &mut Generator) -> Result<Drawn, AllocError> {
     let count = 2 + generator.below(3);
     let mut stations = vec![in heap; Station::default(); usize::from(count)]?;
     let mut legs = Vec::new(heap);
-    let mut standing = Vec::new(heap);
     for _ in 0..1 + generator.below(5) {
-        let mut leg = generator.leg(count, 3, 4);
+        let leg = draw_leg(generator, count, 3, 4);
         let bikes = i32::from(generator.below(3).min(generator.below(3)));
         add(stations.as_mut_slice(), leg.start, bikes);
         add(stations.as_mut_slice(), leg.end, -bikes);
-        if generator.below(8) == 0 {
-            leg.mark = Mark::Shut;
-        }
-        legs.push(leg)?;
+        let is_shut = generator.below(8) == 0;
+        legs.push(if is_shut { shut(leg) } else { leg })?;
     }
-    for _ in 0..generator.below(7) {
-        standing.push(generator.below(4))?;
-    }
+    let entries = generator.below(7);
+    let standing = (0..entries).map(|_| generator.below(4)).collect(heap)?;
     Ok(Drawn {
         stations,
         legs,
@@ -63,13 +61,12 @@ fn draw(heap: Global, generator: &mut Generator) -> Result<Drawn, AllocError> {
 
 // The plan of a number: its digits to base 3.
 fn plan_of(number: u16) -> [u16; 5] {
-    [
-        number % 3,
-        number / 3 % 3,
-        number / 9 % 3,
-        number / 27 % 3,
-        number / 81 % 3,
-    ]
+    let mut rest = number;
+    array::from_fn(|_| {
+        let digit = rest % 3;
+        rest /= 3;
+        digit
+    })
 }
 
 // The least cents and, with them, the least difference of a plan that obeys.
@@ -114,7 +111,7 @@ impl Tally {
     }
 }
 
-// Draws and plans, and prints the sums; a network on which planning and all plans disagree is named.
+// Draws and plans, and prints the sums. The turns are counted, since each draws on what the generator has come to. A network on which planning and all plans disagree is named.
 pub(crate) fn all(rt: &HostRuntime) -> io::Result<()> {
     let mut generator = Generator::new(1);
     let mut lent = Lent::new(rt.alloc(), Sizes::ALL)?;

@@ -10,9 +10,9 @@ fn capacity_in_force(leg: Leg) -> u16 {
     }
 }
 
-// An entry of a list, 0 beyond it.
-fn entry(amounts: &[u16], leg: usize) -> u16 {
-    amounts.get(leg).copied().unwrap_or(0)
+// An entry of a list, zero beyond it.
+fn entry<T: Copy + Default>(entries: &[T], place: usize) -> T {
+    entries.get(place).copied().unwrap_or_default()
 }
 
 // What all legs come to together, by number and leg.
@@ -21,6 +21,7 @@ fn sum_of_legs<N: Network, F: Fn(usize, Leg) -> i64>(net: &N, part: F) -> i64
 {
     (0..net.legs())
         .filter_map(|number| net.leg(number).map(|leg| part(number, leg)))
+        // no `sum`, which asks for a bound on what it adds: the parts are any numbers here, and below
         .fold(0i64, |sum, more| sum.saturating_add(more))
 }
 
@@ -76,15 +77,10 @@ pub(crate) fn weigh<N: Network>(net: &N, standing: &[u16], plan: &[u16]) -> (u64
     (cents.unsigned_abs(), difference.unsigned_abs())
 }
 
-// The price of a station.
-fn price(prices: &[i64], station: u16) -> i64 {
-    prices.get(usize::from(station)).copied().unwrap_or(0)
-}
-
 // Whether no step over a leg undercuts the prices: forth where it has room, back where it carries bikes.
 fn meets_reduced_cost(leg: Leg, amount: u16, prices: &[i64]) -> bool {
-    let dearer = price(prices, leg.start).saturating_add(i64::from(leg.charge));
-    let there = price(prices, leg.end);
+    let dearer = entry(prices, usize::from(leg.start)).saturating_add(i64::from(leg.charge));
+    let there = entry(prices, usize::from(leg.end));
     (amount >= capacity_in_force(leg) || there <= dearer) && (amount == 0 || dearer <= there)
 }
 

@@ -1,14 +1,14 @@
 // Standing plans: amounts that are missing count as 0, amounts beyond the last leg do not count.
 use crate::lent::Sizes;
 use crate::print;
-use crate::worked::{BALANCES, T, U};
+use samples::worked::{STATIONS, T, U};
 use std::io;
 
 // Plans from one standing plan, where the ways cost the same and where they do not.
 fn from(rt: &HostRuntime, name: &str, standing: &[u16]) -> io::Result<()> {
     println!(rt; "standing {name}")?;
-    print::on_table(rt, "T", &T, &BALANCES, standing, Sizes::THREE)?;
-    print::on_table(rt, "U", &U, &BALANCES, standing, Sizes::THREE)
+    print::on_table(rt, "T", &T, &STATIONS, standing, Sizes::THREE)?;
+    print::on_table(rt, "U", &U, &STATIONS, standing, Sizes::THREE)
 }
 
 // Standing plans of several lengths, up to the highest amounts.

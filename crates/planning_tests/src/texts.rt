@@ -1,9 +1,10 @@
 // Large networks, drawn from seeds and handed on as texts. What they cost comes from another solver.
-use crate::generator::{Generator, add};
+use crate::drawing::{add, draw_leg};
 use crate::lent::{Lent, Sizes};
 use crate::verdicts::{is_sound, names_cut, sum_of};
 use network::Network;
-use records::{Leg, Refusal, Station};
+use records::{Leg, MOST_LEGS, MOST_REPORTED, MOST_STATIONS, Refusal, Station};
+use samples::Generator;
 use std::alloc::{AllocError, Global};
 use std::io;
 use text_table::read_table;
@@ -116,11 +117,11 @@ const RECIPES: [Recipe; 10] = [
     },
 ];
 
-// Whether bikes may be added to a balance, which a text keeps from -500 to 500.
+// Whether bikes may be added to a balance, which a text keeps within its limit.
 fn takes(stations: &[Station], station: u16, bikes: i32) -> bool {
-    stations.get(usize::from(station)).is_some_and(|station| (-500..=500).contains(
-        &station.balance.saturating_add(bikes),
-    ))
+    stations.get(usize::from(station)).is_some_and(
+        |station| (-MOST_REPORTED..=MOST_REPORTED).contains(&station.balance.saturating_add(bikes)),
+    )
 }
 
 // Moves bikes over a leg in the balances, where they allow it.
@@ -136,9 +137,15 @@ fn text_of(heap: Global, recipe: Recipe, seed: u64) -> Result<String, AllocError
     let mut generator = Generator::new(seed);
     let mut stations = vec![in heap; Station::default(); usize::from(recipe.stations)]?;
     let mut legs = Vec::new(heap);
+    // counted, since each turn draws on what the generator has come to
     for _ in 0..recipe.legs {
-        let leg = generator.leg(recipe.stations, recipe.capacities, recipe.charges);
-        if generator.below(recipe.one_in.max(1)) == 0 {
+        let leg = draw_leg(
+            &mut generator,
+            recipe.stations,
+            recipe.capacities,
+            recipe.charges,
+        );
+        if generator.below(recipe.one_in) == 0 {
             carry(
                 stations.as_mut_slice(),
                 leg.start,
@@ -168,9 +175,8 @@ fn planned<N: Network>(
             println!(rt; "  difference {difference}, prices {prices} in all, sound {sound}")
         }
         Err(refusal) => {
-            let number = refusal.number();
             let cut = names_cut(net, lent, refusal);
-            println!(rt; "text {name} refused {number}")?;
+            println!(rt; "text {name} refused {}", refusal.number())?;
             println!(rt; "  with a cut {cut}")
         }
     }
@@ -178,17 +184,14 @@ fn planned<N: Network>(
 
 // Reads a text and plans.
 fn read(rt: &HostRuntime, name: &str, text: &[u8], lent: &mut Lent) -> io::Result<()> {
-    let mut legs = vec![in rt.alloc(); Leg::default(); 3000]?;
-    let mut stations = vec![in rt.alloc(); Station::default(); 240]?;
+    let mut legs = vec![in rt.alloc(); Leg::default(); MOST_LEGS]?;
+    let mut stations = vec![in rt.alloc(); Station::default(); MOST_STATIONS]?;
     match read_table(text, legs.as_mut_slice(), stations.as_mut_slice()) {
         Ok(table) => {
             let answer = lent.plan(&table, &[]);
             planned(rt, name, &table, lent, answer)
         }
-        Err(refusal) => {
-            let number = refusal.number();
-            println!(rt; "text {name} not read {number}")
-        }
+        Err(refusal) => println!(rt; "text {name} not read {}", refusal.number()),
     }
 }
 

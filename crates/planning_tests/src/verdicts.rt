@@ -28,7 +28,7 @@ pub(crate) fn names_cut<N: Network>(net: &N, lent: &Lent, refusal: Refusal) -> b
     }
 }
 
-// The sum of the first prices.
+// The sum of the first prices. No `sum`, which asks for a bound on what it adds.
 pub(crate) fn sum_of(prices: &[i64], stations: usize) -> i64 {
     prices
         .iter()

@@ -3,4 +3,4 @@ use Rattle.planning.proofs.marks.mark_over.Given as goal
 
 -- the stations below are marked
 abbrev pub invariant-loop-station : goal.invariant-loop-station
-invariant-loop-station l = Marks l.station l.left l.marks
+invariant-loop-station l = Marks l.station l.draft.left.now l.marks
