@@ -10,15 +10,16 @@ use Rattle.planning.specs.Planned as rule
 use Rattle.planning.specs.Planned.{Accepted, Impossible, the_plan}
 use Rattle.tally.specs.Follows.{papers, Follows}
 use Rattle.tally.specs.declared.answer.Answer.TheVariants.{Refused, Planned}
-use Rattle.board.specs.Views.{seen, plan_call}
-use Rattle.board.proofs.Calls.{when_accepted, when_refused}
+use Rattle.tally.specs.declared.call.Call.TheVariants.{Plan}
+use Rattle.tally.proofs.Meeting.{when_accepted, when_refused}
+use Rattle.board.specs.Views.{seen}
 
 pub plans_follow : (m : ℕ) (n : Net) (xs xs' vs ks : List ℕ) (l : Lengths) (a : ℕ × ℕ) (ps ps' : List ℤ) (cut cut' amounts : List ℕ) → m ≡ length n.legs
     → rule.Planned n (take m xs) l (Ok a) ps ps' cut cut' amounts → take m xs' ≡ take m amounts
-    → Follows (seen n xs vs ks) (plan_call l) (Planned a.0 a.1) (papers ps cut) (papers ps' cut') (seen n xs' vs ks)
+    → Follows (seen n xs vs ks) (Plan l) (Planned a.0 a.1) (papers ps cut) (papers ps' cut') (seen n xs' vs ks)
 plans_follow m n xs xs' vs ks l a ps ps' cut cut' amounts e p c =
     let q : the_plan n amounts ≡ take (length n.legs) xs' = sym (subst (λ (z : ℕ). take z xs' ≡ take z amounts) e c) in
-    when_accepted (seen n xs vs ks) (plan_call l) (Planned a.0 a.1) (papers ps cut) (papers ps' cut') (seen n xs' vs ks)
+    when_accepted (seen n xs vs ks) (Plan l) (Planned a.0 a.1) (papers ps cut) (papers ps' cut') (seen n xs' vs ks)
     (ap (option_map (λ (r : Refusal). (number r, place r))) p.0) (
       subst (λ (zs : List ℕ). Accepted n (take (length n.legs) xs) zs a.0 a.1 ps ps' cut cut') q
           (subst (λ (z : ℕ). Accepted n (take z xs) (the_plan n amounts) a.0 a.1 ps ps' cut cut') e p.1),
@@ -26,16 +27,16 @@ plans_follow m n xs xs' vs ks l a ps ps' cut cut' amounts e p c =
     )
 
 refused_by : (o : Option Refusal) (n : Net) (xs vs ks : List ℕ) (l : Lengths) (e : Refusal) (ps ps' : List ℤ) (cut cut' : List ℕ) → checked n l ≡ o
-    → rule.Refused n o e ps ps' cut cut' → Follows (seen n xs vs ks) (plan_call l) (Refused e) (papers ps cut) (papers ps' cut') (seen n xs vs ks)
+    → rule.Refused n o e ps ps' cut cut' → Follows (seen n xs vs ks) (Plan l) (Refused e) (papers ps cut) (papers ps' cut') (seen n xs vs ks)
 refused_by (Some d) n xs vs ks l e ps ps' cut cut' q r =
-    when_refused (seen n xs vs ks) (plan_call l) e (papers ps cut) (papers ps' cut') (seen n xs vs ks)
+    when_refused (seen n xs vs ks) (Plan l) e (papers ps cut) (papers ps' cut') (seen n xs vs ks)
     (ap (option_map (λ (x : Refusal). (number x, place x))) q ∙ ap (λ (x : Refusal). Some (number x, place x)) (sym r.0))
     (ap (λ (zs : List ℤ). papers zs cut') r.1 ∙ ap (papers ps) r.2) refl
 refused_by None n xs vs ks l e ps ps' cut cut' q r =
-    when_accepted (seen n xs vs ks) (plan_call l) (Refused e) (papers ps cut) (papers ps' cut') (seen n xs vs ks)
+    when_accepted (seen n xs vs ks) (Plan l) (Refused e) (papers ps cut) (papers ps' cut') (seen n xs vs ks)
     (ap (option_map (λ (x : Refusal). (number x, place x))) q)
     (ap number r.1, subst (λ (k : ℕ). Impossible n k ps ps' cut cut') (sym (ap place r.1)) r.2, refl)
 
 pub plan_refused : (m : ℕ) (n : Net) (xs vs ks : List ℕ) (l : Lengths) (e : Refusal) (ps ps' : List ℤ) (cut cut' amounts : List ℕ)
-    → rule.Planned n (take m xs) l (Err e) ps ps' cut cut' amounts → Follows (seen n xs vs ks) (plan_call l) (Refused e) (papers ps cut) (papers ps' cut') (seen n xs vs ks)
+    → rule.Planned n (take m xs) l (Err e) ps ps' cut cut' amounts → Follows (seen n xs vs ks) (Plan l) (Refused e) (papers ps cut) (papers ps' cut') (seen n xs vs ks)
 plan_refused m n xs vs ks l e ps ps' cut cut' amounts r = refused_by (checked n l) n xs vs ks l e ps ps' cut cut' refl r

@@ -12,7 +12,7 @@ use Rattle.tally.proofs.Growing.{sum_in, longer, run_more, beyond_call, run_none
 use Rattle.tally.proofs.Keeping.{legs_same}
 use Rattle.planning.specs.Planned.{SameTables}
 use Rattle.planning.specs.declared.tables.Tables.{Tables}
-use Rattle.planning.proofs.Keeping.{same_slice, slice_twice}
+use Rattle.plans.proofs.Lending.{same_slice, slice_twice}
 use Rattle.board.specs.Running.{lending, lent_by, given, SameSheet, HasRoom, Fits, Moves, MadeAll}
 use Rattle.board.specs.declared.entries.Entries.{Entries}
 use Rattle.board.specs.declared.sheet.Sheet.{Sheet}
@@ -124,4 +124,4 @@ sheet_twice p q = record { prices = slice_twice p.prices q.prices; numbers = sli
 
 pub given_stays : {s s' : Sheet} {t t' : Tables} → SameSheet s s' → SameTables t t' → given (lent_by s') t' ≡ given (lent_by s) t
 given_stays {s} {s'} {t} {t'} p q =
-    rw (p.prices.long, p.numbers.long, p.amounts.long, q.amounts.long, q.labels.long, q.cents.long, q.heads.long, q.left.long, q.marks.long, q.nexts.long) refl
+    rw (p.prices.long, p.numbers.long, p.amounts.long, q.draft.amounts.long, q.draft.left.long, q.labels.long, q.cents.long, q.chains.heads.long, q.chains.nexts.long, q.marks.long) refl

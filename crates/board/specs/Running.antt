@@ -1,4 +1,6 @@
 -- Running a list of calls on lent memory.
+--   stations_long, legs_long   how many entries of the working tables a call takes
+--   of_lengths   the entries of a planning's slices and working tables, and so many amounts
 --   entries      how many entries of each kind a call takes
 --   TooFew, Left what is left once a call has taken its entries
 --   Fits         memory that suffices for the first `count` calls
@@ -6,6 +8,7 @@
 --   lent_by      what a sheet lends
 --   given        how much memory is lent
 --   SameSheet    the same slices, with as many entries
+--   Stays        what stays of network, sheet and working tables
 --   Handed       a call that is handed what it takes
 --   HasRoom      a call that finds what it takes
 --   Moves        where the entries of the next call begin
@@ -15,34 +18,30 @@
 use Rattle.std.specs.Prelude.{◌≡◌, ℕ, ◌+◌, ◌<◌, ◌≤◌, ◌⊎◌, List, length, ℤ, Ok, Err, Result}
 use Rattle.records.specs.declared.refusal.Refusal.{Refusal}
 use Rattle.records.specs.declared.refusal.Refusal.TheVariants.{SliceTooShort}
-use Rattle.planning.specs.Planned.{SameSlice, lengths_of}
+use Rattle.plans.specs.Slices.{SameSlice}
+use Rattle.checks.specs.declared.lengths.Lengths.{Lengths}
+use Rattle.planning.specs.Planned.{SameTables, lengths_of}
 use Rattle.planning.specs.declared.tables.Tables.{Tables}
 use Rattle.tally.specs.Tallies.{Tally}
 use Rattle.tally.specs.Runs.{Lent, call_at, prices_long, numbers_long, amounts_long, from, Beyond, Run, Sound, WholeRun}
 use Rattle.tally.specs.declared.answer.Answer.{Answer}
 use Rattle.tally.specs.declared.call.Call.{Call}
-use Rattle.tally.specs.declared.call.Call.TheVariants.{Report, Close, Reopen, Plan, ListStations, ListRuns, Read}
+use Rattle.tally.specs.declared.call.Call.TheVariants.{Plan}
 use Rattle.board.specs.declared.entries.Entries.{Entries}
 use Rattle.board.specs.declared.sheet.Sheet.{Sheet}
 
 -- of the working tables, the entries for stations and for legs
 abbrev pub stations_long : Call → ℕ
-stations_long (Plan _ _ s _) = s
-stations_long (Report _ _) = 0
-stations_long (Close _) = 0
-stations_long (Reopen _) = 0
-stations_long (ListStations _) = 0
-stations_long (ListRuns _) = 0
-stations_long (Read _) = 0
+stations_long (Plan l) = l.station_entries
+stations_long _ = 0
 
 abbrev pub legs_long : Call → ℕ
-legs_long (Plan _ _ _ l) = l
-legs_long (Report _ _) = 0
-legs_long (Close _) = 0
-legs_long (Reopen _) = 0
-legs_long (ListStations _) = 0
-legs_long (ListRuns _) = 0
-legs_long (Read _) = 0
+legs_long (Plan l) = l.leg_entries
+legs_long _ = 0
+
+-- a cut's slice counts as one for numbers
+abbrev pub of_lengths : Lengths → ℕ → Entries
+of_lengths l m = record { prices = l.prices; numbers = l.cut; amounts = m; stations = l.station_entries; legs = l.leg_entries }
 
 -- where there are m legs
 abbrev pub entries : ℕ → Call → Entries
@@ -79,14 +78,18 @@ lent_by sheet = lending sheet.prices.now sheet.numbers.now sheet.amounts.now
 
 -- with the lengths of the working tables
 abbrev pub given : Lent → Tables → Entries
-given lent tables =
-    let l = lengths_of lent.prices lent.numbers tables in
-    record { prices = length lent.prices; numbers = length lent.numbers; amounts = length lent.amounts; stations = l.station_entries; legs = l.leg_entries }
+given lent tables = of_lengths (lengths_of lent.prices lent.numbers tables) (length lent.amounts)
 
 pub record SameSheet (before after : Sheet) : Type 0 where
   pub prices : SameSlice before.prices after.prices
   pub numbers : SameSlice before.numbers after.numbers
   pub amounts : SameSlice before.amounts after.amounts
+
+-- of the network what every call keeps, and the lent slices
+pub record Stays {N : Type 0} (keeps : N → N → Type 0) (net net' : N) (sheet sheet' : Sheet) (tables tables' : Tables) : Type 0 where
+  pub kept : keeps net net'
+  pub sheet_stays : SameSheet sheet sheet'
+  pub tables_stay : SameTables tables tables'
 
 -- slices exactly as long as it says, and working tables at least as long
 pub record Handed (m : ℕ) (call : Call) (has : Entries) : Type 0 where

@@ -5,16 +5,18 @@ ghost use Rattle.tally.specs.Answers.{done, listed, planned};
 ghost use Rattle.tally.specs.Follows.{Follows, Papers, papers};
 ghost use Rattle.tally.specs.Tallies.{fresh};
 ghost use Rattle.tally.specs.declared.answer.Answer.TheVariants.{Amount};
-ghost use Rattle.tally.specs.declared.call.Call.TheVariants.{Close, ListRuns, ListStations, Read, Reopen, Report};
-ghost use Rattle.board.specs.Views.{plan_call, tally_of};
+ghost use Rattle.tally.specs.declared.call.Call.TheVariants.{Close, ListRuns, ListStations, Plan, Read, Reopen, Report};
+ghost use Rattle.board.specs.Views.{tally_of};
 
 use crate::sorts::{RunningLegs, ShortStations};
 use listing::Kept;
-use network::{MOST_LEGS, MOST_STATIONS, Network, Office};
+use network::{Network, Office};
 use planning::{Tables, plan};
-use records::Refusal;
+use records::{MOST_LEGS, MOST_STATIONS, Refusal};
 
-// Of the plan as many entries count as there are legs.
+// Of the plan as many entries count as the network has legs: a vector would keep that number a second time. The marks are for
+// lists to work in, they mean nothing between two calls, and so one row of them serves both lists.
+// A board is not seen as its tally (`Model`): clauses also say what becomes of `net`, of which a tally holds only the meaning.
 #[derive(Drop)]
 pub struct Board<N> {
     pub(crate) net: N,
@@ -53,13 +55,13 @@ impl<N: Network> Board<N> {
         cut: &mut [usize],
         tables: &mut Tables<'_>,
     ) -> Result<(u64, u64), Refusal>
-        ensures rules { Follows (tally_of N.Network.meaning self.old) (plan_call (lengths_of prices.old cut.old tables.old)) (planned result) (papers prices.old cut.old) (papers prices.new cut.new) (tally_of N.Network.meaning self.new) }
+        ensures rules { Follows (tally_of N.Network.meaning self.old) (Plan (lengths_of prices.old cut.old tables.old)) (planned result) (papers prices.old cut.old) (papers prices.new cut.new) (tally_of N.Network.meaning self.new) }
         ensures net { self.new.net ≡ self.old.net }
         ensures stay { SameTables tables.old tables.new }
     {
         let legs = self.net.legs();
         let answer = plan(&self.net, &self.plan[..legs], prices, cut, tables)?;
-        self.plan[..legs].copy_from_slice(&tables.amounts[..legs]);
+        self.plan[..legs].copy_from_slice(&tables.draft.amounts[..legs]);
         Ok(answer)
     }
 
@@ -86,6 +88,7 @@ impl<N: Network> Board<N> {
     }
 }
 
+// What an office keeps is one word of its trait; each method promises it, since no clause stands over a whole impl.
 impl<N: Office> Board<N> {
     // An open station reports its balance.
     pub fn report(&mut self, station: usize, balance: i32) -> Result<(), Refusal>

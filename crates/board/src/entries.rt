@@ -1,7 +1,8 @@
 // How much of the memory that is lent to a run a call takes, and where in it the next call's part begins.
 ghost use Rattle.std.specs.Prelude.{◌≡◌, length, Decides, MatchOption};
-ghost use Rattle.board.specs.Running.{Fits, Left, TooFew, entries};
+ghost use Rattle.board.specs.Running.{Fits, Left, TooFew, entries, of_lengths};
 
+use checks::Lengths;
 use tally::Call;
 
 // Entries for prices, for cuts and lists, for the amounts of new plans, and of the working tables
@@ -16,23 +17,25 @@ pub struct Entries {
 }
 
 impl Entries {
+    // As many as a planning's slices and working tables have, and so many amounts.
+    pub(crate) fn of_lengths(lengths: Lengths, amounts: usize) -> Entries
+        ensures { result ≡ of_lengths lengths amounts }
+    {
+        Entries {
+            prices: lengths.prices,
+            numbers: lengths.cut,
+            amounts,
+            stations: lengths.station_entries,
+            legs: lengths.leg_entries,
+        }
+    }
+
     // The entries that a call takes, where there are so many legs.
     pub fn of_call(legs: usize, call: Call) -> Entries
         ensures { result ≡ entries legs call }
     {
         match call {
-            Call::Plan {
-                prices,
-                cut,
-                station_entries,
-                leg_entries,
-            } => Entries {
-                prices,
-                numbers: cut,
-                amounts: legs,
-                stations: station_entries,
-                legs: leg_entries,
-            },
+            Call::Plan { lengths } => Entries::of_lengths(lengths, legs),
             Call::ListStations { length } | Call::ListRuns { length } => Entries {
                 numbers: length,
                 ..Entries::default()
@@ -42,9 +45,10 @@ impl Entries {
     }
 
     // What is left for the calls after one, if there is enough for it. Working tables serve every call.
-    fn after(self, taken: Entries) -> Option<Entries>
-        ensures { MatchOption result (TooFew self taken) (Left self taken) }
+    fn after(self, legs: usize, call: Call) -> Option<Entries>
+        ensures { MatchOption result (TooFew self (entries legs call)) (Left self (entries legs call)) }
     {
+        let taken = Entries::of_call(legs, call);
         if self.stations < taken.stations || self.legs < taken.legs {
             return None;
         }
@@ -61,12 +65,8 @@ impl Entries {
 pub(crate) fn suffices(legs: usize, calls: &[Call], lent: Entries) -> bool
     ensures { Decides result (Fits legs calls.now (length calls.now) lent) }
 {
-    let mut left = lent;
-    for call in calls {
-        let Some(rest) = left.after(Entries::of_call(legs, *call)) else {
-            return false;
-        };
-        left = rest;
-    }
-    true
+    calls
+        .iter()
+        .try_fold(lent, |left, call| left.after(legs, *call))
+        .is_some()
 }

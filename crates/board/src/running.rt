@@ -4,15 +4,16 @@ ghost use Rattle.planning.specs.Planned.{SameTables, lengths_of};
 ghost use Rattle.tally.specs.Follows.{Follows, papers};
 ghost use Rattle.tally.specs.Runs.{HandsOut, Makes};
 ghost use Rattle.tally.specs.Tallies.{fresh};
-ghost use Rattle.board.specs.Running.{Fits, Handed, HasRoom, MadeAll, Moves, Ran, SameSheet, WholeRan, given, lending, lent_by};
-ghost use Rattle.board.specs.Views.{plan_call, tally_of};
+ghost use Rattle.tally.specs.declared.call.Call.TheVariants.{Plan};
+ghost use Rattle.board.specs.Running.{Fits, Handed, HasRoom, MadeAll, Moves, Ran, Stays, WholeRan, given, lending, lent_by};
+ghost use Rattle.board.specs.Views.{tally_of};
 
 use crate::board::Board;
 use crate::entries::{Entries, suffices};
 use crate::sheet::Sheet;
-use network::{MOST_LEGS, MOST_STATIONS, Office};
+use network::Office;
 use planning::Tables;
-use records::Refusal;
+use records::{MOST_LEGS, MOST_STATIONS, Refusal};
 use tally::{Answer, Call};
 
 impl<N: Office> Board<N> {
@@ -25,7 +26,7 @@ impl<N: Office> Board<N> {
         tables: &mut Tables<'_>,
     ) -> Answer
         requires { length amounts.old ≡ length (N.Network.meaning self.old.net).legs }
-        ensures rules { Follows (tally_of N.Network.meaning self.old) (plan_call (lengths_of prices.old cut.old tables.old)) result (papers prices.old cut.old) (papers prices.new cut.new) (tally_of N.Network.meaning self.new) }
+        ensures rules { Follows (tally_of N.Network.meaning self.old) (Plan (lengths_of prices.old cut.old tables.old)) result (papers prices.old cut.old) (papers prices.new cut.new) (tally_of N.Network.meaning self.new) }
         ensures hands { HandsOut result (tally_of N.Network.meaning self.new).plan amounts.old amounts.new }
         ensures net { self.new.net ≡ self.old.net }
         ensures stay { SameTables tables.old tables.new }
@@ -57,12 +58,8 @@ impl<N: Office> Board<N> {
             Call::Report { station, balance } => self.report(station, balance).into(),
             Call::Close { leg } => self.close(leg).into(),
             Call::Reopen { leg } => self.reopen(leg).into(),
-            Call::Plan {
-                station_entries,
-                leg_entries,
-                ..
-            } => {
-                if station_entries < MOST_STATIONS || leg_entries < MOST_LEGS {
+            Call::Plan { lengths } => {
+                if lengths.station_entries < MOST_STATIONS || lengths.leg_entries < MOST_LEGS {
                     return Answer::Refused {
                         refusal: Refusal::SliceTooShort,
                     };
@@ -77,7 +74,9 @@ impl<N: Office> Board<N> {
         }
     }
 
-    // Makes one call, with the entries of the sheet that begin at the given places, and moves the places on.
+    // Makes one call, with the entries of the sheet that begin at the given places, and moves the places on. Parts are not split off
+    // the sheet: the clauses tell of all that was lent, and where in it a part begins. The sums stand here, where the lent slices
+    // bound them; a method of `Entries` would have to ask for those bounds.
     fn step(
         &mut self,
         call: Call,
@@ -88,9 +87,7 @@ impl<N: Office> Board<N> {
         requires { HasRoom (length (N.Network.meaning self.old.net).legs) call at.old (given (lent_by sheet.old) tables.old) }
         ensures makes { Makes (length (N.Network.meaning self.old.net).legs) call result (tally_of N.Network.meaning self.old) (tally_of N.Network.meaning self.new) at.old.prices at.old.numbers at.old.amounts (lent_by sheet.old) (lent_by sheet.new) }
         ensures moves { Moves (length (N.Network.meaning self.old.net).legs) call at.old at.new }
-        ensures kept { N.Office.kept self.old.net self.new.net }
-        ensures sheet_stays { SameSheet sheet.old sheet.new }
-        ensures tables_stay { SameTables tables.old tables.new }
+        ensures stays { Stays N.Office.kept self.old.net self.new.net sheet.old sheet.new tables.old tables.new }
     {
         let taken = Entries::of_call(self.net.legs(), call);
         let from = *at;
@@ -116,9 +113,7 @@ impl<N: Office> Board<N> {
     )
         requires { (length calls.now ≤ length answers.old) × (Fits (length (N.Network.meaning self.old.net).legs) calls.now (length calls.now) (given (lent_by sheet.old) tables.old)) }
         ensures all { MadeAll (length (N.Network.meaning self.old.net).legs) (tally_of N.Network.meaning self.old) (tally_of N.Network.meaning self.new) calls.now (length calls.now) answers.old answers.new (lent_by sheet.old) (lent_by sheet.new) }
-        ensures kept { N.Office.kept self.old.net self.new.net }
-        ensures sheet_stays { SameSheet sheet.old sheet.new }
-        ensures tables_stay { SameTables tables.old tables.new }
+        ensures stays { Stays N.Office.kept self.old.net self.new.net sheet.old sheet.new tables.old tables.new }
     {
         let mut at = Entries::default();
         for (i, call) in calls.iter().enumerate() {
@@ -136,9 +131,7 @@ impl<N: Office> Board<N> {
         tables: &mut Tables<'_>,
     ) -> Result<(), Refusal>
         ensures ran { Ran result (given (lent_by sheet.old) tables.old) (length (N.Network.meaning self.old.net).legs) (tally_of N.Network.meaning self.old) (tally_of N.Network.meaning self.new) calls.now answers.old answers.new (lent_by sheet.old) (lent_by sheet.new) }
-        ensures kept { N.Office.kept self.old.net self.new.net }
-        ensures sheet_stays { SameSheet sheet.old sheet.new }
-        ensures tables_stay { SameTables tables.old tables.new }
+        ensures stays { Stays N.Office.kept self.old.net self.new.net sheet.old sheet.new tables.old tables.new }
     {
         let lent = sheet.entries(tables);
         if calls.len() > answers.len() || !suffices(self.net.legs(), calls, lent) {
@@ -158,9 +151,7 @@ pub fn run<N: Office>(
     tables: &mut Tables<'_>,
 ) -> (Board<N>, Result<(), Refusal>)
     ensures ran { WholeRan result.1 (given (lent_by sheet.old) tables.old) (fresh (N.Network.meaning net)) (tally_of N.Network.meaning result.0) calls.now answers.old answers.new (lent_by sheet.old) (lent_by sheet.new) }
-    ensures kept { N.Office.kept net result.0.net }
-    ensures sheet_stays { SameSheet sheet.old sheet.new }
-    ensures tables_stay { SameTables tables.old tables.new }
+    ensures stays { Stays N.Office.kept net result.0.net sheet.old sheet.new tables.old tables.new }
 {
     let mut board = Board::new(net);
     let result = board.run(calls, answers, sheet, tables);

@@ -19,12 +19,6 @@ impl Sheet<'_> {
         ensures { result ≡ given (lent_by self.now) tables.now }
     {
         let lengths = tables.lengths(self.prices, self.numbers);
-        Entries {
-            prices: lengths.prices,
-            numbers: lengths.cut,
-            amounts: self.amounts.len(),
-            stations: lengths.station_entries,
-            legs: lengths.leg_entries,
-        }
+        Entries::of_lengths(lengths, self.amounts.len())
     }
 }

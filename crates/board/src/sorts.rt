@@ -1,8 +1,7 @@
 // The two sorts of lists: who is on them.
 ghost use Rattle.tally.specs.Tallies.{runs as running, short};
 
-use listing::Belongs;
-use network::{Network, balance_of};
+use network::{Belongs, Network, balance_of};
 use steps::amount_at;
 
 // The stations of a network that are short.

@@ -1,12 +1,11 @@
 // The memory that is lent to a run, all filled with something that no call may read.
 use board::entries::Entries;
 use board::{Sheet, run};
-use chain_search::{Label, Links};
 use desk::Desk;
 use network::Office;
-use planning::Tables;
-use records::Refusal;
+use records::{MOST_LEGS, MOST_STATIONS, Refusal};
 use std::alloc::{AllocError, Global};
+use stray::{UNTOUCHED, strew};
 use tally::{Answer, Call};
 
 // More than any run here takes.
@@ -14,37 +13,11 @@ pub const ALL: Entries = Entries {
     prices: 500,
     numbers: 500,
     amounts: 500,
-    stations: 241,
-    legs: 3001,
+    stations: MOST_STATIONS + 1,
+    legs: MOST_LEGS + 1,
 };
 
-// What every entry that is handed out is before a run.
-const UNTOUCHED: u8 = 77;
-
-// Links that lead astray.
-const ASTRAY: Links = Links {
-    forth: Some(9),
-    back: Some(65535),
-};
-
-// Leaves the tables as if in the midst of a planning.
-fn mislead(tables: &mut Tables<'_>) {
-    tables.amounts.fill(60000);
-    tables.labels.fill(Label {
-        changed: true,
-        ..Label::default()
-    });
-    tables.cents.fill(Label {
-        changed: true,
-        ..Label::default()
-    });
-    tables.heads.fill(ASTRAY);
-    tables.left.fill(-5);
-    tables.marks.fill(true);
-    tables.nexts.fill(ASTRAY);
-}
-
-// What a run answers and hands out, and its working tables.
+// What a run answers and hands out, and its working tables. Vectors of its own: they are read when the sheet is given back.
 #[derive(Drop)]
 pub struct Memory {
     pub answers: Vec<Answer>,
@@ -71,7 +44,7 @@ impl Memory {
     // Makes the calls on a new board.
     pub(crate) fn run<N: Office + Drop>(&mut self, net: N, calls: &[Call]) -> Result<(), Refusal> {
         let mut tables = self.desk.lend();
-        mislead(&mut tables);
+        strew(&mut tables);
         let mut sheet = Sheet {
             prices: self.prices.as_mut_slice(),
             numbers: self.numbers.as_mut_slice(),

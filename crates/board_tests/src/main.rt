@@ -2,6 +2,7 @@
 // The lines are compared with the file `stdout`.
 #![tactic(auto)]
 
+mod calls;
 mod drawn;
 mod lent;
 mod limits;

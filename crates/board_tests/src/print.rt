@@ -3,21 +3,37 @@ use crate::lent::{ALL, Memory};
 use board::entries::Entries;
 use network::{Network, Office};
 use records::{Leg, Station};
-use std::io;
+use slices::first;
+use std::{fmt, io};
 use table::Table;
 use tally::Call;
 
-// The first so many entries of a slice, as far as there are so many, and the others.
-fn split<T>(slice: &[T], count: usize) -> (&[T], &[T]) {
-    slice.split_at(count.min(slice.len()))
+// Takes the first so many entries off a slice, as far as there are so many.
+fn take<'a, T>(slice: &mut &'a [T], count: usize) -> &'a [T] {
+    let taken = first(slice, count);
+    *slice = &slice[taken.len()..];
+    taken
 }
 
-// What was handed out with a call, if it takes any entries.
-fn entries(rt: &HostRuntime, prices: &[i64], numbers: &[usize], amounts: &[u16]) -> io::Result<()> {
-    if numbers.is_empty() {
-        return println!(rt; "");
+// What is handed out with a call, as it is printed: nothing where the call takes no entries.
+#[derive(Drop)]
+struct Handed<'a> {
+    prices: &'a [i64],
+    numbers: &'a [usize],
+    amounts: &'a [u16],
+}
+
+impl fmt::Display for Handed<'_> {
+    fn fmt<W: fmt::Write>(&self, f: &mut fmt::Formatter<W>) -> fmt::Result {
+        if self.numbers.is_empty() {
+            return Ok(());
+        }
+        write!(
+            f,
+            ", prices {:?}, numbers {:?}, amounts {:?}",
+            self.prices, self.numbers, self.amounts
+        )
     }
-    println!(rt; ", prices {prices:?}, numbers {numbers:?}, amounts {amounts:?}")
 }
 
 // What a run answered and handed out, call by call, as far as there are answers, where there are so many legs.
@@ -27,19 +43,17 @@ fn lines(rt: &HostRuntime, legs: usize, calls: &[Call], memory: &Memory) -> io::
     let mut amounts = memory.amounts.as_slice();
     for (call, answer) in calls.iter().zip(memory.answers.as_slice()) {
         let taken = Entries::of_call(legs, *call);
-        let (own_prices, more_prices) = split(prices, taken.prices);
-        let (own_numbers, more_numbers) = split(numbers, taken.numbers);
-        let (own_amounts, more_amounts) = split(amounts, taken.amounts);
-        print!(rt; "  {call}: {answer}")?;
-        entries(rt, own_prices, own_numbers, own_amounts)?;
-        prices = more_prices;
-        numbers = more_numbers;
-        amounts = more_amounts;
+        let handed = Handed {
+            prices: take(&mut prices, taken.prices),
+            numbers: take(&mut numbers, taken.numbers),
+            amounts: take(&mut amounts, taken.amounts),
+        };
+        println!(rt; "  {call}: {answer}{handed}")?;
     }
     Ok(())
 }
 
-// A run of calls on a new board, with so many answers and so much memory.
+// A run of calls on a new board, with so many answers and so much memory. A run is refused for one reason alone, so its number says all.
 pub(crate) fn run_within<N: Office + Drop>(
     rt: &HostRuntime,
     name: &str,

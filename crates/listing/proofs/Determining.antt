@@ -4,8 +4,9 @@ use native.Mathlib.Decide.{ℕ_discrete}
 use Rattle.std.proofs.lemmas.Bool.{both_ways, cases_Bool, cases_order, or_right}
 use Rattle.theory.specs.Walks.{Distinct}
 use Rattle.plans.specs.Cuts.{among}
+use Rattle.plans.proofs.Sums.{among_here}
 use Rattle.listing.specs.Lists.{listed, Before, Ordered}
-use Rattle.listing.proofs.Standing.{among_here, among_rest, not_first, before_left, before_right, before_total, before_once}
+use Rattle.listing.proofs.Standing.{among_rest, not_first, before_left, before_right, before_total, before_once}
 use Rattle.listing.proofs.Entering.{keeps_order}
 
 -- two lists that name the same, each once, and in the same order

@@ -3,10 +3,11 @@ use Rattle.std.proofs.Common.{◌≡◌, ℕ, ◌<◌, Bool, true, false, cond, 
 use native.Mathlib.Decide.{ℕ_discrete}
 use Rattle.std.specs.List.{range_with_len}
 use Rattle.std.proofs.lemmas.Bool.{both_ways, cases_Bool, eq-eqb, ne_eqb, eqb-false, ltb-true, lt-ltb, and_parts, and_from, or_cases, or_left, or_right, or_parts, not-true, cond_both}
-use Rattle.theory.specs.Walks.{Absent, Distinct}
+use Rattle.theory.specs.Walks.{Distinct}
 use Rattle.plans.specs.Cuts.{among}
+use Rattle.plans.proofs.Sums.{absent_push, among_last}
 use Rattle.listing.specs.Lists.{candidate, enter, entered, listed, Before, Ordered}
-use Rattle.listing.proofs.Standing.{among_push, among_last, not_first, before_right, before_push, before_last, among_counting, before_counting, distinct_counting}
+use Rattle.listing.proofs.Standing.{among_push, not_first, before_right, before_push, before_last, among_counting, before_counting, distinct_counting}
 
 -- a choice between a list with v at its end and one without
 pick_same : (p a : Bool) (f : List ℕ → Bool) (xs vs : List ℕ) → f xs ≡ true → f vs ≡ a → f (cond (p && not a) xs vs) ≡ (a || p)
@@ -28,10 +29,6 @@ or_absorb : (a p x : Bool) → ((a || p) || (p && x)) ≡ (a || (p && true))
 or_absorb true p x = refl
 or_absorb false true x = refl
 or_absorb false false x = refl
-
-absent_push : (x v : ℕ) (xs : List ℕ) → Absent x xs → (x ≡ v → ⊥) → Absent x (xs ++ v ∷ [])
-absent_push x v [] a q = (q, tt)
-absent_push x v (y ∷ xs) a q = (a.0, absent_push x v xs a.1 q)
 
 distinct_push : (v : ℕ) (xs : List ℕ) → Distinct xs → among v xs ≡ false → Distinct (xs ++ v ∷ [])
 distinct_push v [] d h = (tt, tt)

@@ -5,8 +5,9 @@ use Rattle.std.proofs.lemmas.List.{append_assoc, append-nil}
 use Rattle.std.proofs.lemmas.Bool.{or_right}
 use Rattle.theory.specs.Walks.{Distinct}
 use Rattle.plans.specs.Cuts.{among}
+use Rattle.plans.proofs.Sums.{among_here}
 use Rattle.listing.specs.Lists.{candidate, enter, entered, listed, stayers, newcomers}
-use Rattle.listing.proofs.Standing.{among_here, not_first, distinct_counting}
+use Rattle.listing.proofs.Standing.{not_first, distinct_counting}
 use Rattle.listing.proofs.Entering.{among_entered, enter_other}
 
 -- two tests that agree on a list keep the same of it

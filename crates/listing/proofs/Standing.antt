@@ -5,7 +5,7 @@ use Rattle.std.specs.List.{range_with_len}
 use Rattle.std.proofs.lemmas.Bool.{both_ways, eq-eqb, ne_eqb, or_left, or_right}
 use Rattle.theory.specs.Walks.{Absent, Distinct}
 use Rattle.plans.specs.Cuts.{among}
-use Rattle.plans.proofs.Sums.{absent_among}
+use Rattle.plans.proofs.Sums.{absent_among, among_last}
 use Rattle.listing.specs.Lists.{Before}
 
 or_swap : (x y z : Bool) → (x || (y || z)) ≡ (y || (x || z))
@@ -18,12 +18,6 @@ or_swap false false z = refl
 pub among_push : (v u : ℕ) (xs : List ℕ) → among v (xs ++ u ∷ []) ≡ (eqb v u || among v xs)
 among_push v u [] = refl
 among_push v u (x ∷ xs) = ap (λ t. eqb v x || t) (among_push v u xs) ∙ or_swap (eqb v x) (eqb v u) (among v xs)
-
-pub among_here : (v : ℕ) (xs : List ℕ) → among v (v ∷ xs) ≡ true
-among_here v xs = or_left (eqb v v) (among v xs) (eq-eqb v v refl)
-
-pub among_last : (v : ℕ) (xs : List ℕ) → among v (xs ++ v ∷ []) ≡ true
-among_last v xs = among_push v v xs ∙ or_left (eqb v v) (among v xs) (eq-eqb v v refl)
 
 -- not the first, so among the rest
 pub among_rest : (v x : ℕ) (xs : List ℕ) → (v ≡ x → ⊥) → among v (x ∷ xs) ≡ true → among v xs ≡ true

@@ -4,6 +4,7 @@
 --   Listing   what the call answers and leaves
 --   Renewed   what a kept list and the slices hold once it was made anew
 --   Renews    what that call answers and leaves
+--   Writes    the same of a list that is only written, following an earlier one
 -- A prime marks what a slice holds afterwards.
 use Rattle.std.specs.Prelude.{◌≡◌, ℕ, ◌<◌, ◌≤◌, Bool, false, ◌⊎◌, List, length, take, drop, Ok, Err, count_by, Result, slice_index_or}
 use Rattle.records.specs.declared.refusal.Refusal.{Refusal}
@@ -50,3 +51,9 @@ abbrev pub Renews : (ℕ → Bool) → ℕ → ℕ → Result ℕ Refusal → Li
 Renews belongs count most (Ok r) earlier now marks marks' out out' = ((count ≤ length out) × (count ≤ most) × (count ≤ length marks)) × Renewed belongs count r earlier now marks marks' out out'
 Renews belongs count most (Err e) earlier now marks marks' out out' =
     (e ≡ SliceTooShort) × ((length out < count) ⊎ ((most < count) ⊎ (length marks < count))) × ((now ≡ earlier) × (marks' ≡ marks) × (out' ≡ out))
+
+-- there is room for a list of at most so many
+abbrev pub Writes : (ℕ → Bool) → ℕ → ℕ → Result ℕ Refusal → List ℕ → List Bool → List Bool → List ℕ → List ℕ → Type 0
+Writes belongs count most (Ok r) earlier marks marks' out out' =
+    ((count ≤ length out) × (count ≤ most) × (count ≤ length marks)) × (r ≤ count) × Renewed belongs count r earlier (listed belongs count earlier) marks marks' out out'
+Writes belongs count most (Err e) earlier marks marks' out out' = (e ≡ SliceTooShort) × ((length out < count) ⊎ ((most < count) ⊎ (length marks < count))) × ((marks' ≡ marks) × (out' ≡ out))

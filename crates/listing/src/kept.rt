@@ -2,26 +2,24 @@
 ghost use Rattle.std.specs.Prelude.{◌≡◌, []};
 ghost use Rattle.listing.specs.Listings.{Renews};
 
-use crate::Belongs;
+use arrayvec::ArrayVec;
+use network::Belongs;
 use records::Refusal;
 use std::marker::Model;
 
-// A list of at most N numbers: the first `count` of the entries.
+// A list of at most N numbers. It holds no marks: they mean nothing between two calls, and lists of several kinds share them.
 #[derive(Drop)]
 pub struct Kept<const N: usize> {
-    entries: [usize; N],
-    count: usize,
+    numbers: ArrayVec<usize, N>,
 }
 
 // It is seen as the list.
 impl<const N: usize> Model for Kept<N> {
-    ghost use Rattle.std.specs.Prelude.{List, ℕ, ◌≤◌, take};
+    ghost use Rattle.std.specs.Prelude.{List, ℕ};
 
     ghost Value = { List ℕ };
 
-    ghost view = { λ k. take k.count k.entries };
-
-    ghost invariant = { λ k. k.count ≤ N };
+    ghost view = { λ k. k.numbers.items };
 }
 
 impl<const N: usize> Kept<N> {
@@ -30,8 +28,7 @@ impl<const N: usize> Kept<N> {
         ensures { result ≡ [] }
     {
         Kept {
-            entries: [0; N],
-            count: 0,
+            numbers: ArrayVec::new(),
         }
     }
 
@@ -47,8 +44,12 @@ impl<const N: usize> Kept<N> {
     ) -> Result<usize, Refusal>
         ensures { Renews (B.Belongs.belongs who.now) count N result self.old self.new marks.old marks.new out.old out.new }
     {
-        let long = crate::list(who, count, self.count, &mut self.entries, marks, out)?;
-        self.count = long;
+        let long = crate::write(who, count, self.numbers.as_slice(), N, marks, out)?;
+        // no list is longer than the count, so this one has room
+        self.numbers.clear();
+        self.numbers
+            .try_extend_from_slice(&out[..long])
+            .map_err(|_| Refusal::SliceTooShort)?;
         Ok(long)
     }
 }

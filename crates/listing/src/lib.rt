@@ -2,26 +2,19 @@
 // new goes to the end.
 #![tactic(auto)]
 
-ghost use Rattle.std.specs.Prelude.{◌≡◌, ℕ, Bool, [], ◌∷◌, ◌++◌, take};
+ghost use Rattle.std.specs.Prelude.{◌≡◌, [], ◌∷◌, ◌++◌, take};
 ghost use Rattle.std.specs.List.{range_with_len};
 ghost use Rattle.listing.specs.Example.{ThreeLists};
 ghost use Rattle.listing.specs.Lists.{Determined, InTwoParts, KeepsOrder};
-ghost use Rattle.listing.specs.Listings.{Listing, Marked};
+ghost use Rattle.listing.specs.Listings.{Listing, Marked, Writes};
 
 pub mod kept;
 
 pub use kept::Kept;
+use network::Belongs;
 use records::Refusal;
 
-// Whether a number belongs on a list.
-pub trait Belongs {
-    ghost belongs: { Self → ℕ → Bool };
-
-    fn belongs(&self, number: usize) -> bool
-        ensures { result ≡ belongs self.now number };
-}
-
-// A list that is being written: the first `long` entries of `out`. Marked are those on it.
+// A list that is being written: the first `long` entries of `out`, which is lent, and so a slice. Marked are those on it.
 #[derive(Drop)]
 struct Writing<'a, B> {
     who: &'a B,
@@ -59,21 +52,19 @@ impl<'a, B: Belongs> Writing<'a, B> {
     }
 }
 
-// Writes the list of those among the numbers below `count` that belong, and answers how long it is.
-// The earlier list stands in the first `long` entries of `kept`: those of it that still belong come
-// first, in their earlier order, then the others by rising number. `kept` gets the new list in place
-// of the earlier one. The marks are to work in. Refused where a slice is shorter than the count.
-pub fn list<B: Belongs>(
+// Writes the list of those among the numbers below `count` that belong, following an earlier list, and answers
+// how long it is. Refused where a slice, or the room for the next earlier list, is shorter than the count.
+fn write<B: Belongs>(
     who: &B,
     count: usize,
-    long: usize,
-    kept: &mut [usize],
+    earlier: &[usize],
+    room: usize,
     marks: &mut [bool],
     out: &mut [usize],
 ) -> Result<usize, Refusal>
-    ensures { Listing (B.Belongs.belongs who.now) count (take long kept.old) result kept.old kept.new marks.old marks.new out.old out.new }
+    ensures { Writes (B.Belongs.belongs who.now) count room result earlier.now marks.old marks.new out.old out.new }
 {
-    if out.len() < count || kept.len() < count || marks.len() < count {
+    if out.len() < count || room < count || marks.len() < count {
         return Err(Refusal::SliceTooShort);
     }
     marks[..count].fill(false);
@@ -84,8 +75,28 @@ pub fn list<B: Belongs>(
         marks: &mut *marks,
         out: &mut *out,
     };
-    writing.enter_all(&kept[..long.min(kept.len())]);
-    let all = writing.long;
+    writing.enter_all(earlier);
+    Ok(writing.long)
+}
+
+// Writes the list of those among the numbers below `count` that belong, and answers how long it is.
+// The earlier list stands in the first `long` entries of `kept`: those of it that still belong come
+// first, in their earlier order, then the others by rising number. `kept` gets the new list in place
+// of the earlier one. The marks are to work in. Refused where a slice is shorter than the count.
+// What is lent stays a slice with a length beside it; `Kept` is a list with memory of its own. `who`, `count`, `marks` and `out`
+// are no struct: nobody holds the four together, a board has the marks and its caller the slice.
+pub fn list<B: Belongs>(
+    who: &B,
+    count: usize,
+    long: usize,
+    kept: &mut [usize],
+    marks: &mut [bool],
+    out: &mut [usize],
+) -> Result<usize, Refusal>
+    ensures { Listing (B.Belongs.belongs who.now) count (take long kept.old) result kept.old kept.new marks.old marks.new out.old out.new }
+{
+    let room = kept.len();
+    let all = write(who, count, &kept[..long.min(room)], room, marks, out)?;
     kept[..all].copy_from_slice(&out[..all]);
     Ok(all)
 }

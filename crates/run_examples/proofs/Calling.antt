@@ -16,13 +16,15 @@ use Rattle.examples.proofs.Severed.{cuts}
 use Rattle.tally.specs.Tallies.{Tally, with_meaning, with_plan, with_stations, short_list}
 use Rattle.tally.specs.Follows.{Papers, papers, written, fault, Accepts, PlanAnswers}
 use Rattle.tally.specs.declared.answer.Answer.{Answer}
-use Rattle.tally.specs.declared.answer.Answer.TheVariants.{Done, Refused, Planned, Listed, Amount}
+use Rattle.tally.specs.declared.answer.Answer.TheVariants.{Done, Refused, Planned, Listed}
 use Rattle.tally.specs.declared.call.Call.{Call}
 use Rattle.tally.specs.declared.call.Call.TheVariants.{Report, Close, Plan, ListStations}
+use Rattle.tally.proofs.Meeting.{when_accepted}
 use Rattle.tally.proofs.Naming.{same_refused}
+use Rattle.tally.proofs.Written.{parts}
 use Rattle.run_examples.specs.After.{Outcome, After, AfterPlanning, AfterListing, NewPlan, CutOff, Alters, HandsOut}
-use Rattle.run_examples.proofs.Passing.{follows, deserved, passes}
-use Rattle.run_examples.proofs.Writing.{prices_entered, prices_are, parts, taken}
+use Rattle.run_examples.proofs.Passing.{deserved, passes}
+use Rattle.run_examples.proofs.Writing.{prices_entered, prices_are, taken}
 
 -- a call that meets no fault: what is accepted is the outcome, and the run goes on from there
 allowed : (t : Tally) (call : Call) (outcome : Outcome) (next : Tally → Type 0) → fault t call ≡ None
@@ -30,8 +32,8 @@ allowed : (t : Tally) (call : Call) (outcome : Outcome) (next : Tally → Type 0
     → ((x : Answer) (q q' : Papers) (u : Tally) → Accepts t call x q q' u ↔ outcome x q q' u)
     → ((x : Answer) (q q' : Papers) (u : Tally) → outcome x q q' u → next u) → After t call outcome next
 allowed t call outcome next e p s n = record {
-  possible = λ q. let a = p q in (a.0, a.1, a.2, follows t call a.0 q a.1 a.2 e ((s a.0 q a.1 a.2).1 a.3));
-  exactly = λ x q q' u. (λ F. (s x q q' u).0 (F.accepted e), λ o. follows t call x q q' u e ((s x q q' u).1 o));
+  possible = λ q. let a = p q in (a.0, a.1, a.2, when_accepted t call a.0 q a.1 a.2 e ((s a.0 q a.1 a.2).1 a.3));
+  exactly = λ x q q' u. (λ F. (s x q q' u).0 (F.accepted e), λ o. when_accepted t call x q q' u e ((s x q q' u).1 o));
   goes_on = λ x q q' u F. n x q q' u ((s x q q' u).0 (F.accepted e));
 }
 
@@ -82,9 +84,7 @@ new_plan t plan c d (Planned k e) q q' u b a =
       cut_stays = a.0.cut_stays;
     }
 new_plan t plan c d (Refused e) q q' u b a = absurd (a.1.none_obeys plan ((b.exactly plan).1 refl).obeys)
-new_plan t plan c d Done q q' u b a = absurd a
-new_plan t plan c d (Listed k) q q' u b a = absurd a
-new_plan t plan c d (Amount y) q q' u b a = absurd a
+new_plan t plan c d _ q q' u b a = absurd a
 
 accepted : (t : Tally) (plan : List ℕ) (c d : ℕ) (q q' : Papers) → OnlyBest t.meaning t.plan plan c d → Prices t.meaning plan q'.prices
     → drop (stations t.meaning) q'.prices ≡ drop (stations t.meaning) q.prices → q'.numbers ≡ q.numbers → PlanAnswers t (Planned c d) q q' (with_plan t plan)
@@ -103,8 +103,8 @@ replaced t x y q q' u v e f a = subst (λ (z : Answer). PlanAnswers t z q q' u) 
 
 pub after_planning : (t : Tally) (plan : List ℕ) (c d : ℕ) (next : Tally → Type 0) → deserved t.meaning ≡ None → OnlyBest t.meaning t.plan plan c d
     → next (with_plan t plan) → AfterPlanning t (NewPlan t plan c d) next
-after_planning t plan c d next m b h p k s l hp hk hs hl =
-    allowed t (Plan p k s l) (NewPlan t plan c d) next (passes t p k s l m hp hk hs hl)
+after_planning t plan c d next m b h l hp hk hs hl =
+    allowed t (Plan l) (NewPlan t plan c d) next (passes t l m hp hk hs hl)
     (λ q. let a = planned t plan c d q b in (Planned c d, a.0, with_plan t plan, new_plan t plan c d (Planned c d) q a.0 (with_plan t plan) b a.1))
     (λ x q q' u. (
       new_plan t plan c d x q q' u b,
@@ -115,8 +115,8 @@ after_planning t plan c d next m b h p k s l hp hk hs hl =
 -- an outcome that says more, where that follows
 pub with_more : (t : Tally) (outcome other : Answer → Papers → Papers → Tally → Type 0) (next : Tally → Type 0) → ((x : Answer) (q q' : Papers) (u : Tally) → outcome x q q' u ↔ other x q q' u)
     → AfterPlanning t outcome next → AfterPlanning t other next
-with_more t outcome other next f a p k s l hp hk hs hl =
-    let r = a p k s l hp hk hs hl in
+with_more t outcome other next f a l hp hk hs hl =
+    let r = a l hp hk hs hl in
     record {
       possible = r.possible;
       exactly = λ x q q' u. (λ F. (f x q q' u).0 ((r.exactly x q q' u).0 F), λ o. (r.exactly x q q' u).1 ((f x q q' u).1 o));
@@ -142,9 +142,7 @@ by_two t e q q' u m a k = go ((cuts (take (place e) q'.numbers)).0 k)
 cut_off : (t : Tally) (x : Answer) (q q' : Papers) (u : Tally) → t.meaning ≡ T_shut → PlanAnswers t x q q' u → CutOff t x q q' u
 cut_off t (Refused e) q q' u m a = by_two t e q q' u m a (subst (λ net. Cut net (take (place e) q'.numbers)) m a.1.is_cut)
 cut_off t (Planned c d) q q' u m a = absurd (no_way u.plan (subst (λ net. Obeys net u.plan) m a.0.best.obeys))
-cut_off t Done q q' u m a = absurd a
-cut_off t (Listed k) q q' u m a = absurd a
-cut_off t (Amount y) q q' u m a = absurd a
+cut_off t _ q q' u m a = absurd a
 
 refused : (t : Tally) (a b : ℕ) (q q' : Papers) → t.meaning ≡ T_shut → Cut T_shut (a ∷ b ∷ []) → q'.numbers ≡ written (a ∷ b ∷ []) q.numbers → q'.prices ≡ q.prices → PlanAnswers t (Refused (NoPlanObeys 2)) q q' t
 refused t a b q q' m k f g = (
@@ -165,9 +163,9 @@ either t q q' m (inl f) g = refused t 0 1 q q' m ((cuts (0 ∷ 1 ∷ [])).1 (inl
 either t q q' m (inr f) g = refused t 1 0 q q' m ((cuts (1 ∷ 0 ∷ [])).1 (inr refl)) f g
 
 pub after_cut : (t : Tally) (next : Tally → Type 0) → t.meaning ≡ T_shut → next t → AfterPlanning t (CutOff t) next
-after_cut t next m h p k s l hp hk hs hl =
+after_cut t next m h l hp hk hs hl =
     let no : Answer = Refused (NoPlanObeys 2) in
-    allowed t (Plan p k s l) (CutOff t) next (passes t p k s l (ap deserved m) hp hk hs hl)
+    allowed t (Plan l) (CutOff t) next (passes t l (ap deserved m) hp hk hs hl)
     (λ q. (no, handed q (0 ∷ 1 ∷ []), t, record { answered = refl; cut = inl refl; prices_stay = refl; tally_stays = refl }))
     (λ x q q' u. (cut_off t x q q' u m, λ o. replaced t x no q q' u t o.answered o.tally_stays (either t q q' m o.cut o.prices_stay)))
     (λ x q q' u o. subst next (sym o.tally_stays) h)

@@ -1,5 +1,5 @@
 -- Slices in which the first entries were written.
-use Rattle.std.proofs.Common.{◌≡◌, ℕ, zero, suc, ◌<◌, ◌≤◌, List, [], ◌∷◌, ◌++◌, length, take, drop, ℤ, sym, refl, ap, ◌∙◌, subst, arith, take-append-drop, length-take}
+use Rattle.std.proofs.Common.{◌≡◌, ℕ, zero, suc, ◌<◌, ◌≤◌, List, [], ◌∷◌, length, take, drop, ℤ, refl, ap, ◌∙◌, subst, arith, length-take}
 use Rattle.network.specs.Nets.{Net}
 use Rattle.plans.specs.Plans.{stations, CheapestThenNearest}
 use Rattle.plans.specs.Residuals.{forward, backward, CentsStep}
@@ -8,6 +8,7 @@ use Rattle.plans.proofs.Around.{no_cents_trip}
 use Rattle.plans.proofs.Pricing.{exists, reduced}
 use Rattle.prices.specs.Priced.{price_at, Prices}
 use Rattle.examples.proofs.Places.{below_three}
+use Rattle.tally.proofs.Written.{parts}
 use Rattle.run_examples.specs.After.{Holds}
 
 -- numbers below n that have what is asked, in the first n entries
@@ -55,9 +56,6 @@ prices_are net standing plan before b e = record {
 }
 
 -- ---- what a slice is whose first entries are known
-pub parts : {X : Type 0} (k : ℕ) (vs before after : List X) → take k after ≡ vs → drop k after ≡ drop k before → k ≡ length vs → after ≡ vs ++ drop (length vs) before
-parts {X} k vs before after p q e = sym (take-append-drop k after) ∙ (ap (λ (us : List X). us ++ drop k after) p ∙ (ap (λ (us : List X). vs ++ us) q ∙ ap (λ (m : ℕ). vs ++ drop m before) e))
-
 -- as many as were taken are there
 pub taken : {X : Type 0} (k : ℕ) (vs after : List X) → k ≤ length after → take k after ≡ vs → k ≡ length vs
 taken {X} k vs after h p = let a = length-take k after in let b : length (take k after) ≡ length vs = ap length p in omega arith

@@ -15,6 +15,7 @@ use Rattle.records.specs.declared.refusal.Refusal.TheVariants.{NoPlanObeys}
 use Rattle.network.specs.Nets.{Net}
 use Rattle.plans.specs.Plans.{stations}
 use Rattle.prices.specs.Priced.{price_at, Prices}
+use Rattle.checks.specs.declared.lengths.Lengths.{Lengths}
 use Rattle.tally.specs.Tallies.{Tally, with_meaning, with_plan, with_stations}
 use Rattle.tally.specs.Follows.{Papers, papers, written, Follows}
 use Rattle.tally.specs.declared.answer.Answer.{Answer}
@@ -34,7 +35,8 @@ pub record After (t : Tally) (call : Call) (outcome : Outcome) (next : Tally →
 
 -- a price and an entry of the cut for each station, and working tables for 240 stations and 3,000 legs, or more
 abbrev pub AfterPlanning : Tally → Outcome → (Tally → Type 0) → Type 0
-AfterPlanning t outcome next = (p c s l : ℕ) → stations t.meaning ≤ p → stations t.meaning ≤ c → 240 ≤ s → 3000 ≤ l → After t (Plan p c s l) outcome next
+AfterPlanning t outcome next =
+    (l : Lengths) → stations t.meaning ≤ l.prices → stations t.meaning ≤ l.cut → 240 ≤ l.station_entries → 3000 ≤ l.leg_entries → After t (Plan l) outcome next
 
 -- an entry for each open station, or more
 abbrev pub AfterListing : Tally → Outcome → (Tally → Type 0) → Type 0

@@ -40,13 +40,10 @@ answer_old : (answers : List Answer) (i k : ℕ) (x : Answer) → k < i → answ
 answer_old answers i k x h = let ne : k ≡ i → ⊥ = λ e. omega (arith, e) in get_or-set_other answers i k x Done ne
 
 move_follows : {t u : Tally} {call : Call} {x y : Answer} {p q p' q' : Papers} {t' u' : Tally} → t ≡ u → x ≡ y → p ≡ q → p' ≡ q' → t' ≡ u' → Follows t call x p p' t' → Follows u call y q q' u'
-move_follows {t} {u} {call} {x} {y} {p} {q} {p'} {q'} {t'} {u'} a b c d e F =
-    subst (λ (z : Tally). Follows u call y q q' z) e (subst (λ (z : Papers). Follows u call y q z t') d (subst (λ (z : Papers). Follows u call y z p' t') c
-    (subst (λ (z : Answer). Follows u call z p p' t') b (subst (λ (z : Tally). Follows z call x p p' t') a F))))
+move_follows a b c d e F = rw (sym a, sym b, sym c, sym d, sym e) F
 
 move_hands : {x y : Answer} {plan plan' xs xs' ys ys' : List ℕ} → x ≡ y → plan ≡ plan' → xs ≡ xs' → ys ≡ ys' → HandsOut x plan xs ys → HandsOut y plan' xs' ys'
-move_hands {x} {y} {plan} {plan'} {xs} {xs'} {ys} {ys'} a b c d h =
-    subst (λ (z : List ℕ). HandsOut y plan' xs' z) d (subst (λ (z : List ℕ). HandsOut y plan' z ys) c (subst (λ (z : List ℕ). HandsOut y z xs ys) b (subst (λ (z : Answer). HandsOut z plan xs ys) a h)))
+move_hands a b c d h = rw (sym a, sym b, sym c, sym d) h
 
 module _ (m : ℕ) (first t t' : Tally) (calls : List Call) (i : ℕ) (answers₀ answers : List Answer) (x : Answer) (l₀ l l' : Lent) (tally : ℕ → Tally) where
   old_papers : Makes m (call_at calls i) x t t' (from prices_long calls i) (from numbers_long calls i) (from (amounts_long m) calls i) l l' → (k : ℕ) → k < i → papers_at calls l' k ≡ papers_at calls l k

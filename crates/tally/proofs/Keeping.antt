@@ -1,14 +1,15 @@
 -- Every tally of a run has one amount for each leg and lists that name nobody twice.
-use Rattle.std.proofs.Common.{◌≡◌, ℕ, length, Some, None, Option, sym, refl, ap, ◌∙◌, subst, length-set}
+use Rattle.std.proofs.Common.{◌≡◌, ℕ, length, sym, ap, ◌∙◌, subst, length-set}
 use Rattle.listing.proofs.Entering.{keeps_order}
 use Rattle.theory.specs.Walks.{Distinct}
 use Rattle.tally.specs.Tallies.{Tally, short, runs, short_list, running_list}
-use Rattle.tally.specs.Follows.{Papers, fault, PlanAnswers, Accepts, Follows}
+use Rattle.tally.specs.Follows.{Papers, PlanAnswers, Accepts, Follows}
 use Rattle.tally.specs.Runs.{Sound}
 use Rattle.tally.specs.declared.answer.Answer.{Answer}
-use Rattle.tally.specs.declared.answer.Answer.TheVariants.{Done, Refused, Planned, Listed, Amount}
+use Rattle.tally.specs.declared.answer.Answer.TheVariants.{Refused, Planned}
 use Rattle.tally.specs.declared.call.Call.{Call}
 use Rattle.tally.specs.declared.call.Call.TheVariants.{Report, Close, Reopen, Plan, ListStations, ListRuns, Read}
+use Rattle.tally.proofs.Meeting.{met}
 
 short_once : (t : Tally) → Distinct t.station_list → Distinct (short_list t)
 short_once t d = (keeps_order (short t.meaning) t.meaning.open_stations t.station_list d).once
@@ -24,47 +25,35 @@ planned_sound : (m : ℕ) (t : Tally) (x : Answer) (p p' : Papers) (t' : Tally) 
 planned_sound m t (Planned c d) p p' t' s a =
     moved m a.1 (record { legs_stay = s.legs_stay; one_each = a.0.best.obeys.fits.one_each ∙ s.legs_stay; stations_once = s.stations_once; runs_once = s.runs_once })
 planned_sound m t (Refused e) p p' t' s a = moved m a.2 s
-planned_sound m t Done p p' t' s a = absurd a
-planned_sound m t (Listed k) p p' t' s a = absurd a
-planned_sound m t (Amount k) p p' t' s a = absurd a
+planned_sound m t _ p p' t' s a = absurd a
 
 accepts_sound : (m : ℕ) (t : Tally) (call : Call) (x : Answer) (p p' : Papers) (t' : Tally) → Sound m t → Accepts t call x p p' t' → Sound m t'
 accepts_sound m t (Report v b) x p p' t' s a = moved m a.2 (record { legs_stay = s.legs_stay; one_each = s.one_each; stations_once = s.stations_once; runs_once = s.runs_once })
 accepts_sound m t (Close k) x p p' t' s a = moved m a.2 (record { legs_stay = length-set t.meaning.legs k _ ∙ s.legs_stay; one_each = s.one_each; stations_once = s.stations_once; runs_once = s.runs_once })
 accepts_sound m t (Reopen k) x p p' t' s a = moved m a.2 (record { legs_stay = length-set t.meaning.legs k _ ∙ s.legs_stay; one_each = s.one_each; stations_once = s.stations_once; runs_once = s.runs_once })
-accepts_sound m t (Plan q c n l) x p p' t' s a = planned_sound m t x p p' t' s a
+accepts_sound m t (Plan l) x p p' t' s a = planned_sound m t x p p' t' s a
 accepts_sound m t (ListStations n) x p p' t' s a = moved m a.2 (record { legs_stay = s.legs_stay; one_each = s.one_each; stations_once = short_once t s.stations_once; runs_once = s.runs_once })
 accepts_sound m t (ListRuns n) x p p' t' s a = moved m a.2 (record { legs_stay = s.legs_stay; one_each = s.one_each; stations_once = s.stations_once; runs_once = running_once t s.runs_once })
 accepts_sound m t (Read k) x p p' t' s a = moved m a.2 s
 
-sound_by : (o : Option (ℕ × ℕ)) (m : ℕ) (t : Tally) (call : Call) (x : Answer) (p p' : Papers) (t' : Tally) → fault t call ≡ o → Sound m t → Follows t call x p p' t' → Sound m t'
-sound_by (Some f) m t call x p p' t' e s F = moved m (F.refused f e).2 s
-sound_by None m t call x p p' t' e s F = accepts_sound m t call x p p' t' s (F.accepted e)
-
 -- one call more
 pub sound_more : (m : ℕ) (t : Tally) (call : Call) (x : Answer) (p p' : Papers) (t' : Tally) → Sound m t → Follows t call x p p' t' → Sound m t'
-sound_more m t call x p p' t' s F = sound_by (fault t call) m t call x p p' t' refl s F
+sound_more m t call x p p' t' s F = met t call F (λ f e r. moved m r.2 s) (λ e a. accepts_sound m t call x p p' t' s a)
 
 -- no call changes how many legs there are
 legs_planned : (t : Tally) (x : Answer) (p p' : Papers) (t' : Tally) → PlanAnswers t x p p' t' → length t'.meaning.legs ≡ length t.meaning.legs
 legs_planned t (Planned c d) p p' t' a = ap (λ (u : Tally). length u.meaning.legs) a.1
 legs_planned t (Refused e) p p' t' a = ap (λ (u : Tally). length u.meaning.legs) a.2
-legs_planned t Done p p' t' a = absurd a
-legs_planned t (Listed k) p p' t' a = absurd a
-legs_planned t (Amount k) p p' t' a = absurd a
+legs_planned t _ p p' t' a = absurd a
 
 legs_accepted : (t : Tally) (call : Call) (x : Answer) (p p' : Papers) (t' : Tally) → Accepts t call x p p' t' → length t'.meaning.legs ≡ length t.meaning.legs
 legs_accepted t (Report v b) x p p' t' a = ap (λ (u : Tally). length u.meaning.legs) a.2
 legs_accepted t (Close k) x p p' t' a = ap (λ (u : Tally). length u.meaning.legs) a.2 ∙ length-set t.meaning.legs k _
 legs_accepted t (Reopen k) x p p' t' a = ap (λ (u : Tally). length u.meaning.legs) a.2 ∙ length-set t.meaning.legs k _
-legs_accepted t (Plan q c n l) x p p' t' a = legs_planned t x p p' t' a
+legs_accepted t (Plan l) x p p' t' a = legs_planned t x p p' t' a
 legs_accepted t (ListStations n) x p p' t' a = ap (λ (u : Tally). length u.meaning.legs) a.2
 legs_accepted t (ListRuns n) x p p' t' a = ap (λ (u : Tally). length u.meaning.legs) a.2
 legs_accepted t (Read k) x p p' t' a = ap (λ (u : Tally). length u.meaning.legs) a.2
 
-legs_by : (o : Option (ℕ × ℕ)) (t : Tally) (call : Call) (x : Answer) (p p' : Papers) (t' : Tally) → fault t call ≡ o → Follows t call x p p' t' → length t'.meaning.legs ≡ length t.meaning.legs
-legs_by (Some f) t call x p p' t' e F = ap (λ (u : Tally). length u.meaning.legs) (F.refused f e).2
-legs_by None t call x p p' t' e F = legs_accepted t call x p p' t' (F.accepted e)
-
 pub legs_same : (t : Tally) (call : Call) (x : Answer) (p p' : Papers) (t' : Tally) → Follows t call x p p' t' → length t'.meaning.legs ≡ length t.meaning.legs
-legs_same t call x p p' t' F = legs_by (fault t call) t call x p p' t' refl F
+legs_same t call x p p' t' F = met t call F (λ f e r. ap (λ (u : Tally). length u.meaning.legs) r.2) (λ e a. legs_accepted t call x p p' t' a)

@@ -1,4 +1,6 @@
 pub mod Naming
+pub mod Meeting
+pub mod Written
 pub mod Agreeing
 pub mod Saying
 pub mod Keeping

@@ -6,7 +6,7 @@ use Rattle.records.specs.declared.refusal.Refusal.{Refusal}
 use Rattle.records.specs.declared.refusal.Refusal.TheVariants.{TextTooLong, LineOutOfForm, LineOutOfOrder, FieldOutOfRange, TablesTooShort, ArcsMiscounted, StationNotOpen, BalanceOutOfRange, NotARoadLeg, MarkUnchanged, SliceTooShort, SenselessLeg, BalanceTooLarge, UnevenBalances, NoPlanObeys}
 use Rattle.tally.specs.Answers.{refusal_of}
 use Rattle.tally.specs.declared.answer.Answer.{Answer}
-use Rattle.tally.specs.declared.answer.Answer.TheVariants.{Done, Refused, Planned, Listed, Amount}
+use Rattle.tally.specs.declared.answer.Answer.TheVariants.{Done, Refused}
 
 abbrev by_name : ℕ → ℕ → Refusal
 by_name k p =
@@ -37,11 +37,8 @@ answer_by None = Done
 answer_by (Some f) = Refused (by_name f.0 f.1)
 
 refused_is : (x : Answer) (f : ℕ × ℕ) → refusal_of x ≡ Some f → x ≡ answer_by (Some f)
-refused_is Done f e = absurd (none-some f e)
 refused_is (Refused r) f e = ap (λ s. Refused s) (sym (named r)) ∙ ap answer_by e
-refused_is (Planned c d) f e = absurd (none-some f e)
-refused_is (Listed k) f e = absurd (none-some f e)
-refused_is (Amount x) f e = absurd (none-some f e)
+refused_is _ f e = absurd (none-some f e)
 
 -- two answers that tell the same refusal are the same
 pub same_refused : (x y : Answer) (f : ℕ × ℕ) → refusal_of x ≡ Some f → refusal_of y ≡ Some f → x ≡ y

@@ -10,7 +10,7 @@ use Rattle.tally.specs.Follows.{Papers, written, Accepts, Follows}
 use Rattle.tally.specs.Model.{fed, next}
 use Rattle.tally.specs.Runs.{Lent, call_at, answer_at, papers_at, amounts_at, HandsOut, Beyond, Run, Sound, BestPlan, NoPlan, WholeRun}
 use Rattle.tally.specs.declared.answer.Answer.{Answer}
-use Rattle.tally.specs.declared.answer.Answer.TheVariants.{Done, Refused, Planned, Listed, Amount}
+use Rattle.tally.specs.declared.answer.Answer.TheVariants.{Refused, Planned, Listed}
 use Rattle.tally.specs.declared.call.Call.{Call}
 use Rattle.tally.specs.declared.call.Call.TheVariants.{ListStations, ListRuns}
 use Rattle.tally.proofs.Agreeing.{computed}
@@ -19,10 +19,7 @@ use Rattle.tally.proofs.Keeping.{sound_more}
 
 fed_same : (x : Answer) (plan xs ys : List ℕ) → HandsOut x plan xs ys → fed x plan ≡ fed x ys
 fed_same (Planned c d) plan xs ys h = ap (λ (zs : List ℕ). Some zs) (sym h)
-fed_same Done plan xs ys h = refl
-fed_same (Refused e) plan xs ys h = refl
-fed_same (Listed k) plan xs ys h = refl
-fed_same (Amount k) plan xs ys h = refl
+fed_same _ plan xs ys h = refl
 
 best_plan : (t : Tally) (call : Call) (x : Answer) (p p' : Papers) (t' : Tally) (xs ys : List ℕ) (c d : ℕ) → Follows t call x p p' t' → HandsOut x t'.plan xs ys → x ≡ Planned c d → BestPlan t ys c d p'.prices
 best_plan t call x p p' t' xs ys c d F h e =
@@ -82,7 +79,7 @@ whole m first last calls answers answers' lent lent' tally s R B =
       refusals_alter_nothing = λ i e h q. unaltered (tally i) (call_at calls i) (answer_at answers' i) e (papers_at calls lent i) (papers_at calls lent' i) (tally (suc i)) q (R.follows i h);
       plans_are_best = λ i c d h q. best_plan (tally i) (call_at calls i) (answer_at answers' i) (papers_at calls lent i) (papers_at calls lent' i) (tally (suc i)) (amounts_at m calls lent i) (amounts_at m calls lent' i) c d (R.follows i h) (R.hands_out i h) q;
       cuts_exclude_plans = λ i e h q n. no_plan (tally i) (call_at calls i) (answer_at answers' i) (papers_at calls lent i) (papers_at calls lent' i) (tally (suc i)) e (R.follows i h) q n;
-      plans_are_found = λ i p c n l plan h q f o. plan_found (tally i) (call_at calls i) (answer_at answers' i) (papers_at calls lent i) (papers_at calls lent' i) (tally (suc i)) p c n l plan q f o (R.follows i h);
+      plans_are_found = λ i l plan h q f o. plan_found (tally i) (call_at calls i) (answer_at answers' i) (papers_at calls lent i) (papers_at calls lent' i) (tally (suc i)) l plan q f o (R.follows i h);
       stations_keep_order = λ i n k h q e. station_order (tally i) (call_at calls i) (answer_at answers' i) (papers_at calls lent i) (papers_at calls lent' i) (tally (suc i)) n k m (sound i (omega (arith, h))) (R.follows i h) q e;
       runs_keep_order = λ i n k h q e. run_order (tally i) (call_at calls i) (answer_at answers' i) (papers_at calls lent i) (papers_at calls lent' i) (tally (suc i)) n k m (sound i (omega (arith, h))) (R.follows i h) q e;
     }

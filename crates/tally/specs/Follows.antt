@@ -2,7 +2,6 @@
 --   Papers     the slices that are handed in with a call
 --   papers     the slices by themselves
 --   written    a slice whose first entries are written and whose others stay
---   lengths    the lengths of what a planning is handed
 --   fault      the refusal that a call meets, by number and place; of a planning, before the search
 --   PlanAnswers   what a planning that meets no fault answers and leaves
 --   Accepts    what a call that meets no fault answers and leaves
@@ -15,7 +14,6 @@ use Rattle.records.specs.declared.leg.Mark.TheVariants.{Open, Shut}
 use Rattle.records.specs.declared.refusal.Refusal.{Refusal}
 use Rattle.network.specs.Offices.{report_fault, mark_fault, reported, remarked}
 use Rattle.checks.specs.Checks.{checked}
-use Rattle.checks.specs.declared.lengths.Lengths.{Lengths}
 use Rattle.planning.specs.Planned.{Accepted, Impossible}
 use Rattle.tally.specs.Tallies.{Tally, with_meaning, with_plan, with_stations, with_runs, short_list, running_list, standing}
 use Rattle.tally.specs.Answers.{refusal_of}
@@ -35,16 +33,14 @@ papers ps ns = record { prices = ps; numbers = ns }
 abbrev pub written : List ℕ → List ℕ → List ℕ
 written new old = new ++ drop (length new) old
 
-abbrev pub lengths : ℕ → ℕ → ℕ → ℕ → Lengths
-lengths p c s l = record { prices = p; cut = c; station_entries = s; leg_entries = l }
-
+-- by number and place, as callers are told refusals and as the faults of an office are defined:
 -- 7 or 8 of a report, 9 or 10 of a closing or reopening, 11 to 14 of a planning, 11 of a listing whose slice is shorter
 -- than the stations or legs to list are many, none of a reading
 abbrev pub fault : Tally → Call → Option (ℕ × ℕ)
 fault t (Report s b) = report_fault t.meaning.open_stations s b
 fault t (Close k) = mark_fault t.meaning.road_legs t.meaning.legs k Shut
 fault t (Reopen k) = mark_fault t.meaning.road_legs t.meaning.legs k Open
-fault t (Plan p c s l) = option_map (λ (e : Refusal). (number e, place e)) (checked t.meaning (lengths p c s l))
+fault t (Plan l) = option_map (λ (e : Refusal). (number e, place e)) (checked t.meaning l)
 fault t (ListStations n) = cond (nat_lt n t.meaning.open_stations) (Some (11, 0)) None
 fault t (ListRuns n) = cond (nat_lt n (length t.meaning.legs)) (Some (11, 0)) None
 fault t (Read k) = None
@@ -56,16 +52,14 @@ PlanAnswers t (Planned c d) p p' t' =
     Accepted t.meaning t.plan t'.plan c d p.prices p'.prices p.numbers p'.numbers × (t' ≡ with_plan t t'.plan)
 PlanAnswers t (Refused e) p p' t' =
     (number e ≡ 15) × Impossible t.meaning (place e) p.prices p'.prices p.numbers p'.numbers × (t' ≡ t)
-PlanAnswers t Done p p' t' = ⊥
-PlanAnswers t (Listed k) p p' t' = ⊥
-PlanAnswers t (Amount x) p p' t' = ⊥
+PlanAnswers t _ p p' t' = ⊥
 
 -- a list is handed out in the first entries of its slice, and kept
 abbrev pub Accepts : Tally → Call → Answer → Papers → Papers → Tally → Type 0
 Accepts t (Report s b) answer p p' t' = (answer ≡ Done) × (p' ≡ p) × (t' ≡ with_meaning t (reported t.meaning s b))
 Accepts t (Close k) answer p p' t' = (answer ≡ Done) × (p' ≡ p) × (t' ≡ with_meaning t (remarked t.meaning k Shut))
 Accepts t (Reopen k) answer p p' t' = (answer ≡ Done) × (p' ≡ p) × (t' ≡ with_meaning t (remarked t.meaning k Open))
-Accepts t (Plan _ _ _ _) answer p p' t' = PlanAnswers t answer p p' t'
+Accepts t (Plan l) answer p p' t' = PlanAnswers t answer p p' t'
 Accepts t (ListStations n) answer p p' t' =
     (answer ≡ Listed (length (short_list t))) × (p' ≡ papers p.prices (written (short_list t) p.numbers)) × (t' ≡ with_stations t (short_list t))
 Accepts t (ListRuns n) answer p p' t' =

@@ -1,6 +1,8 @@
 -- The tally after a call, computed.
 --   fed     what a tally is fed of an answer: after an accepted planning its amounts
+--   planned   the tally after a planning that meets no fault
 --   moved   the tally after a call that meets no fault
+--   moved_unless   the same, unless the call meets a fault
 --   next    the tally after a call
 use Rattle.std.specs.Prelude.{ℕ, List, Some, None, Option}
 use Rattle.records.specs.declared.leg.Mark.TheVariants.{Open, Shut}
@@ -8,16 +10,13 @@ use Rattle.network.specs.Offices.{reported, remarked}
 use Rattle.tally.specs.Tallies.{Tally, with_meaning, with_plan, with_stations, with_runs, short_list, running_list}
 use Rattle.tally.specs.Follows.{fault}
 use Rattle.tally.specs.declared.answer.Answer.{Answer}
-use Rattle.tally.specs.declared.answer.Answer.TheVariants.{Done, Refused, Planned, Listed, Amount}
+use Rattle.tally.specs.declared.answer.Answer.TheVariants.{Planned}
 use Rattle.tally.specs.declared.call.Call.{Call}
 use Rattle.tally.specs.declared.call.Call.TheVariants.{Report, Close, Reopen, Plan, ListStations, ListRuns, Read}
 
 abbrev pub fed : Answer → List ℕ → Option (List ℕ)
 fed (Planned c d) amounts = Some amounts
-fed Done amounts = None
-fed (Refused e) amounts = None
-fed (Listed k) amounts = None
-fed (Amount x) amounts = None
+fed _ amounts = None
 
 -- by the amounts, if the planning was accepted
 abbrev pub planned : Tally → Option (List ℕ) → Tally
@@ -28,7 +27,7 @@ abbrev pub moved : Tally → Call → Option (List ℕ) → Tally
 moved t (Report s b) given = with_meaning t (reported t.meaning s b)
 moved t (Close k) given = with_meaning t (remarked t.meaning k Shut)
 moved t (Reopen k) given = with_meaning t (remarked t.meaning k Open)
-moved t (Plan _ _ _ _) given = planned t given
+moved t (Plan l) given = planned t given
 moved t (ListStations n) given = with_stations t (short_list t)
 moved t (ListRuns n) given = with_runs t (running_list t)
 moved t (Read k) given = t

@@ -21,15 +21,16 @@ use Rattle.theory.specs.Walks.{Distinct}
 use Rattle.plans.specs.Plans.{sum_below, Obeys, cents, difference, CheapestThenNearest}
 use Rattle.plans.specs.Cuts.{Cut}
 use Rattle.prices.specs.Priced.{Prices}
+use Rattle.checks.specs.declared.lengths.Lengths.{Lengths}
 use Rattle.listing.specs.Lists.{Ordered}
 use Rattle.tally.specs.Tallies.{Tally, short, runs}
 use Rattle.tally.specs.Answers.{refusal_of}
 use Rattle.tally.specs.Follows.{Papers, papers, fault, Follows}
 use Rattle.tally.specs.Model.{fed, next}
 use Rattle.tally.specs.declared.answer.Answer.{Answer}
-use Rattle.tally.specs.declared.answer.Answer.TheVariants.{Done, Refused, Planned, Listed, Amount}
+use Rattle.tally.specs.declared.answer.Answer.TheVariants.{Done, Refused, Planned, Listed}
 use Rattle.tally.specs.declared.call.Call.{Call}
-use Rattle.tally.specs.declared.call.Call.TheVariants.{Report, Close, Reopen, Plan, ListStations, ListRuns, Read}
+use Rattle.tally.specs.declared.call.Call.TheVariants.{Report, Plan, ListStations, ListRuns}
 
 -- for prices, for cuts and lists, and for the amounts of new plans
 pub record Lent : Type 0 where
@@ -44,33 +45,20 @@ abbrev pub answer_at : List Answer → ℕ → Answer
 answer_at answers i = slice_index_or answers i Done
 
 abbrev pub prices_long : Call → ℕ
-prices_long (Plan p _ _ _) = p
-prices_long (Report _ _) = 0
-prices_long (Close _) = 0
-prices_long (Reopen _) = 0
-prices_long (ListStations _) = 0
-prices_long (ListRuns _) = 0
-prices_long (Read _) = 0
+prices_long (Plan l) = l.prices
+prices_long _ = 0
 
 -- a cut or a list
 abbrev pub numbers_long : Call → ℕ
-numbers_long (Plan _ c _ _) = c
+numbers_long (Plan l) = l.cut
 numbers_long (ListStations n) = n
 numbers_long (ListRuns n) = n
-numbers_long (Report _ _) = 0
-numbers_long (Close _) = 0
-numbers_long (Reopen _) = 0
-numbers_long (Read _) = 0
+numbers_long _ = 0
 
 -- one for each of m legs
 abbrev pub amounts_long : ℕ → Call → ℕ
-amounts_long m (Plan _ _ _ _) = m
-amounts_long m (Report _ _) = 0
-amounts_long m (Close _) = 0
-amounts_long m (Reopen _) = 0
-amounts_long m (ListStations _) = 0
-amounts_long m (ListRuns _) = 0
-amounts_long m (Read _) = 0
+amounts_long m (Plan l) = m
+amounts_long m _ = 0
 
 -- behind those of the calls before it
 abbrev pub from : (Call → ℕ) → List Call → ℕ → ℕ
@@ -88,10 +76,7 @@ amounts_at m calls lent i = part (amounts_long m) calls lent.amounts i
 -- after an accepted planning they are the plan that stands then, else they stay
 abbrev pub HandsOut : Answer → List ℕ → List ℕ → List ℕ → Type 0
 HandsOut (Planned c d) plan amounts amounts' = amounts' ≡ plan
-HandsOut Done plan amounts amounts' = amounts' ≡ amounts
-HandsOut (Refused e) plan amounts amounts' = amounts' ≡ amounts
-HandsOut (Listed k) plan amounts amounts' = amounts' ≡ amounts
-HandsOut (Amount x) plan amounts amounts' = amounts' ≡ amounts
+HandsOut _ plan amounts amounts' = amounts' ≡ amounts
 
 -- its prices begin at p, its numbers at q and its amounts at s; all other entries stay
 pub record Makes (m : ℕ) (call : Call) (answer : Answer) (t t' : Tally) (p q s : ℕ) (lent lent' : Lent) : Type 0 where
@@ -151,7 +136,7 @@ pub record WholeRun (m : ℕ) (first last : Tally) (calls : List Call) (answers 
   pub refusals_alter_nothing : (i : ℕ) (e : Refusal) → i < length calls → answer_at answers' i ≡ Refused e → tally (suc i) ≡ tally i
   pub plans_are_best : (i c d : ℕ) → i < length calls → answer_at answers' i ≡ Planned c d → BestPlan (tally i) (amounts_at m calls lent' i) c d (papers_at calls lent' i).prices
   pub cuts_exclude_plans : (i : ℕ) (e : Refusal) → i < length calls → answer_at answers' i ≡ Refused e → number e ≡ 15 → NoPlan (tally i) (take (place e) (papers_at calls lent' i).numbers)
-  pub plans_are_found : (i p c s l : ℕ) (plan : List ℕ) → i < length calls → call_at calls i ≡ Plan p c s l → fault (tally i) (call_at calls i) ≡ None → Obeys (tally i).meaning plan → refusal_of (answer_at answers' i) ≡ None
+  pub plans_are_found : (i : ℕ) (l : Lengths) (plan : List ℕ) → i < length calls → call_at calls i ≡ Plan l → fault (tally i) (call_at calls i) ≡ None → Obeys (tally i).meaning plan → refusal_of (answer_at answers' i) ≡ None
   pub stations_keep_order : (i n k : ℕ) → i < length calls → call_at calls i ≡ ListStations n → answer_at answers' i ≡ Listed k
       → Ordered (short (tally i).meaning) (tally i).meaning.open_stations (tally i).station_list (take k (papers_at calls lent' i).numbers)
   pub runs_keep_order : (i n k : ℕ) → i < length calls → call_at calls i ≡ ListRuns n → answer_at answers' i ≡ Listed k

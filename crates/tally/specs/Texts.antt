@@ -15,7 +15,7 @@ abbrev pub call_text : Call → List ℕ
 call_text (Report s b) = codes "report " ++ decimal s ++ codes " " ++ signed_decimal b
 call_text (Close k) = codes "close " ++ decimal k
 call_text (Reopen k) = codes "reopen " ++ decimal k
-call_text (Plan p c s l) = codes "plan " ++ decimal p ++ codes " " ++ decimal c ++ codes " " ++ decimal s ++ codes " " ++ decimal l
+call_text (Plan l) = codes "plan " ++ decimal l.prices ++ codes " " ++ decimal l.cut ++ codes " " ++ decimal l.station_entries ++ codes " " ++ decimal l.leg_entries
 call_text (ListStations n) = codes "stations " ++ decimal n
 call_text (ListRuns n) = codes "runs " ++ decimal n
 call_text (Read k) = codes "read " ++ decimal k

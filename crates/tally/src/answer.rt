@@ -6,6 +6,8 @@ ghost use Rattle.tally.specs.Texts.{answer_text};
 use records::Refusal;
 use std::fmt;
 
+// What was refused or how it was accepted. No `Result`: an answer is printed by `Display` and made by `From`, and only a type
+// of this crate can have them.
 #[derive(Clone, Copy, PartialEq, Eq, Debug)]
 pub enum Answer {
     // a report, a closing or a reopening is accepted
@@ -19,6 +21,8 @@ pub enum Answer {
     // the standing amount of a leg, absent where there is no such leg
     Amount { bikes: Option<u16> },
 }
+
+// The three refuse in the same way and accept in their own: a `From` over every `Result` could not say which answer is made.
 
 // The answer to a report, a closing or a reopening.
 impl From<Result<(), Refusal>> for Answer {
@@ -61,14 +65,14 @@ impl fmt::Display for Answer {
 
     fn fmt<W: fmt::Write>(&self, f: &mut fmt::Formatter<W>) -> fmt::Result {
         match *self {
-            Answer::Done => write!(f, "done"),
+            Answer::Done => f.write_str("done"),
             Answer::Refused { refusal } => write!(f, "{refusal}"),
             Answer::Planned { cents, difference } => {
                 write!(f, "{cents} cents, difference {difference}")
             }
             Answer::Listed { count } => write!(f, "{count} listed"),
             Answer::Amount { bikes: Some(bikes) } => write!(f, "{bikes}"),
-            Answer::Amount { bikes: None } => write!(f, "absent"),
+            Answer::Amount { bikes: None } => f.write_str("absent"),
         }
     }
 }

@@ -12,21 +12,23 @@ loop-i-init g c =
     let a : c.default-at.result.amounts ≡ 0 = search rules in
     record {
       going = going_none (g.N.Network.meaning c.args.self.now.net) (tally_of g.N.Network.meaning c.args.self.now) c.args.calls.now c.args.answers.now (lent_by c.args.sheet.now) c.default-at.result refl p n a;
-      kept = g.N.Office.keeps.same _;
-      sheet_stays = same_sheet _;
-      tables_stay = same_tables _;
+      stays = record { kept = g.N.Office.keeps.same _; sheet_stays = same_sheet _; tables_stay = same_tables _ };
     }
 
 pub step-requires : goal.step-requires
 step-requires g c =
-    has_room _ _ _ _ _ _ _ _ _ _ _ _ c.loop-i-test.true c.loop-i.invariant.going c.requires.1 (given_stays c.loop-i.invariant.sheet_stays c.loop-i.invariant.tables_stay)
+    has_room _ _ _ _ _ _ _ _ _ _ _ _ c.loop-i-test.true c.loop-i.invariant.going c.requires.1 (given_stays c.loop-i.invariant.stays.sheet_stays c.loop-i.invariant.stays.tables_stay)
 
 pub loop-i-preserved : goal.loop-i-preserved
 loop-i-preserved g c =
+    let was = c.loop-i.invariant.stays in
+    let is = c.step.ensures.stays in
     let room : c.loop-i.i < length c.loop-i.answers = omega (arith, c.loop-i.auto.answers, c.loop-i-test.true, c.requires.0) in
     record {
       going = going_more _ _ _ _ _ _ _ _ _ _ _ _ _ _ room c.loop-i.invariant.going c.step.ensures.makes c.step.ensures.moves;
-      kept = g.N.Office.keeps.more _ _ _ c.loop-i.invariant.kept c.step.ensures.kept;
-      sheet_stays = sheet_twice c.loop-i.invariant.sheet_stays c.step.ensures.sheet_stays;
-      tables_stay = same_twice c.loop-i.invariant.tables_stay c.step.ensures.tables_stay;
+      stays = record {
+        kept = g.N.Office.keeps.more _ _ _ was.kept is.kept;
+        sheet_stays = sheet_twice was.sheet_stays is.sheet_stays;
+        tables_stay = same_twice was.tables_stay is.tables_stay;
+      };
     }

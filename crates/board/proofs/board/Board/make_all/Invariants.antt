@@ -1,6 +1,5 @@
 use Rattle.std.proofs.Common.{length}
-use Rattle.planning.specs.Planned.{SameTables}
-use Rattle.board.specs.Running.{SameSheet, lent_by}
+use Rattle.board.specs.Running.{Stays, lent_by}
 use Rattle.board.specs.Views.{tally_of}
 use Rattle.board.proofs.Stepping.{Going}
 use Rattle.board.proofs.board.Board.make_all.Given as goal
@@ -11,7 +10,5 @@ invariant-loop-i g l =
     let meaning = g.N.Network.meaning in
     record {
       going : Going (length (meaning l.initial.self.net).legs) (tally_of meaning l.initial.self) (tally_of meaning l.self) l.calls l.i l.initial.answers l.answers (lent_by l.initial.sheet) (lent_by l.sheet) l.at;
-      kept : g.N.Office.kept l.initial.self.net l.self.net;
-      sheet_stays : SameSheet l.initial.sheet l.sheet;
-      tables_stay : SameTables l.initial.tables l.tables;
+      stays : Stays g.N.Office.kept l.initial.self.net l.self.net l.initial.sheet l.sheet l.initial.tables l.tables;
     }
