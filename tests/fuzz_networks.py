@@ -14,12 +14,11 @@ cut of COUNT stations. Prints the counts, and how many answers differ; the statu
 """
 
 import collections
-import concurrent.futures
-import os
 import random
 import subprocess
 import sys
-import tempfile
+
+from fuzzing import fuzz
 
 CENT = 1 << 24  # what a cent counts beside a bike
 
@@ -146,33 +145,13 @@ def run(program, seed, count):
         sort, wrong = fault(*net, done.stdout)
         seen[sort] += 1
         if wrong or done.returncode != 0:
-            apart.append((text, wrong or "status %d" % done.returncode, done.stdout))
+            apart.append([part.encode() for part in (text, wrong or "status %d" % done.returncode, done.stdout)])
     return seen, apart
 
 
-def main():
-    program = os.path.abspath(sys.argv[1])
-    count = int(sys.argv[2]) if len(sys.argv) > 2 else 20_000
-    seed = int(sys.argv[3]) if len(sys.argv) > 3 else 1
-    share = 250
-    seen, apart = collections.Counter(), []
-    with concurrent.futures.ProcessPoolExecutor() as pool:
-        parts = [pool.submit(run, program, seed * 1_000_003 + k, min(share, count - k * share)) for k in range(-(-count // share))]
-        for part in parts:
-            some, differing = part.result()
-            seen.update(some)
-            apart += differing
+def show(seen):
     print("  ".join("%s %d" % item for item in sorted(seen.items())))
-    if apart:
-        folder = tempfile.mkdtemp(prefix="fuzz_networks.")
-        for k, (text, wrong, printed) in enumerate(apart):
-            for kind, data in (("text", text), ("wanted", wrong), ("printed", printed)):
-                with open(os.path.join(folder, "%d.%s" % (k, kind)), "w") as file:
-                    file.write(data)
-        print("networks whose answers differ: " + folder)
-    print("%d networks, %d answers differ" % (sum(seen.values()), len(apart)))
-    return 1 if apart else 0
 
 
 if __name__ == "__main__":
-    sys.exit(main())
+    sys.exit(fuzz("networks", run, 20_000, 250, show))

@@ -5,17 +5,16 @@ PROGRAM reads a network text and prints the canonical text of the network that i
 `c refused NUMBER PLACE` (docs/text-format.md, docs/refusals.md). The reader below is written from those
 pages alone. COUNT texts are made: whole ones, damaged ones, ones at the limits, and noise. Prints how many
 texts of each sort there were, how they were answered, and how many answers differ; each text whose answer
-differs is written beside, to the folder that is printed. The status is 1 if any does.
+differs is written to a folder. The status is 1 if any does.
 """
 
 import collections
-import concurrent.futures
-import os
 import random
 import re
 import subprocess
 import sys
-import tempfile
+
+from fuzzing import fuzz
 
 MOST_BYTES, MOST_NODES, MOST_ARCS = 65536, 240, 3000
 MOST_FLOW, MOST_CAPACITY, MOST_COST = 500, 500, 10000
@@ -182,31 +181,11 @@ def run(program, seed, count):
     return seen, apart
 
 
-def main():
-    program = os.path.abspath(sys.argv[1])
-    count = int(sys.argv[2]) if len(sys.argv) > 2 else 100_000
-    seed = int(sys.argv[3]) if len(sys.argv) > 3 else 1
-    share = 1000
-    seen, apart = collections.Counter(), []
-    with concurrent.futures.ProcessPoolExecutor() as pool:
-        parts = [pool.submit(run, program, seed * 1_000_003 + k, min(share, count - k * share)) for k in range(-(-count // share))]
-        for part in parts:
-            some, differing = part.result()
-            seen.update(some)
-            apart += differing
+def show(seen):
     for sort, _ in SORTS:
         row = {answer: n for (name, answer), n in sorted(seen.items()) if name == sort.__name__}
         print("%-8s %6d  " % (sort.__name__, sum(row.values())) + "  ".join("%s %d" % item for item in row.items()))
-    if apart:
-        folder = tempfile.mkdtemp(prefix="fuzz_texts.")
-        for k, (text, wanted, printed) in enumerate(apart):
-            for kind, data in (("text", text), ("wanted", wanted), ("printed", printed)):
-                with open(os.path.join(folder, "%d.%s" % (k, kind)), "wb") as file:
-                    file.write(data)
-        print("texts whose answers differ: " + folder)
-    print("%d texts, %d answers differ" % (sum(seen.values()), len(apart)))
-    return 1 if apart else 0
 
 
 if __name__ == "__main__":
-    sys.exit(main())
+    sys.exit(fuzz("texts", run, 100_000, 1000, show))
