@@ -1,4 +1,4 @@
--- What `vanplan` prints.
+-- What `canonical` prints.
 --   as_stations    the stations that have some balances
 --   printed        the bytes printed for what reading a text came to
 --   PrintsNet      a network, and the bytes that are printed for it

@@ -1,4 +1,4 @@
-// What `vanplan` prints: the canonical text of a network.
+// What `canonical` prints: the canonical text of a network.
 ghost use Rattle.std.specs.Prelude.{◌≡◌, IfOk, string_bytes};
 ghost use Rattle.text_rules.specs.Reading.{reading};
 ghost use Rattle.writer.specs.Canonical.{canonical};
@@ -37,7 +37,7 @@ pub fn canonical_text<N: Network>(heap: Global, net: &N) -> Result<String, Alloc
     network_text(heap, stations.as_slice(), legs.as_slice())
 }
 
-// The canonical text is printed.
+// The canonical text is printed. A struct to each way to answer, since what a way prints is a member of its trait.
 pub struct Canonical;
 
 impl NetworkAnswer for Canonical {

@@ -1,4 +1,4 @@
-// What a program answers to a network text, by what it answers to a network; and what `vanplan` answers.
+// What a program answers to a network text, by what it answers to a network; and what `canonical` answers.
 #![tactic(auto)]
 
 mod canonical;

@@ -1,4 +1,4 @@
--- What `plan_once` prints for a text.
+-- What `vanplan` prints for a text.
 --   whole_lengths   slices and working tables for the largest network
 --   cents_line      the line that tells what a plan costs
 --   leg_line        the line that tells a leg and its bikes
@@ -23,7 +23,7 @@ use Rattle.checks.specs.declared.lengths.Lengths.{Lengths}
 use Rattle.text_table.specs.Stands.{net_of}
 use Rattle.answers.specs.Answered.{refusal_line}
 
--- an entry for each
+-- an entry for each station and each leg that a network can have
 abbrev pub whole_lengths : Lengths
 whole_lengths = record { prices = 240; cut = 240; station_entries = 240; leg_entries = 3000 }
 

@@ -1,4 +1,4 @@
-// The lines that `plan_once` prints.
+// The lines that `vanplan` prints. Each writer is handed what its own line tells.
 ghost use Rattle.std.specs.Prelude.{◌≡◌, ◌++◌, IfOk, string_bytes};
 ghost use Rattle.writer.specs.Canonical.{Appends};
 ghost use Rattle.planning.specs.Planned.{the_plan};

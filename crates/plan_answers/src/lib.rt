@@ -1,10 +1,10 @@
-// What `plan_once` answers to a network text: the bytes that it prints.
+// What `vanplan` answers to a network text: the bytes that it prints.
 #![tactic(auto)]
 
 ghost use Rattle.std.specs.Prelude.{IfOk, string_bytes};
 ghost use Rattle.checks.specs.Checks.{checked};
 ghost use Rattle.planning.specs.Planned.{lengths_of};
-ghost use Rattle.plan_answers.specs.Printed.{whole_lengths, PrintsNet};
+ghost use Rattle.plan_answers.specs.Printed.{PrintsNet, PrintsWhole};
 
 mod answer_lines;
 mod plan_once;
@@ -36,7 +36,7 @@ fn answer_within<N: Network>(
 
 // What is printed for a network: the best plan from a standing plan that carries nothing, or the refusal.
 pub fn network_answer<N: Network>(heap: Global, net: &N) -> Result<String, AllocError>
-    ensures { IfOk result (λ s. PrintsNet (N.Network.meaning net.now) (checked (N.Network.meaning net.now) whole_lengths) (string_bytes s)) }
+    ensures { IfOk result (λ s. PrintsWhole (N.Network.meaning net.now) (string_bytes s)) }
 {
     let mut prices = vec![in heap; 0; MOST_STATIONS]?;
     let mut cut = vec![in heap; 0; MOST_STATIONS]?;

@@ -9,7 +9,7 @@ use answers::{NetworkAnswer, answer_by};
 use network::Network;
 use std::alloc::{AllocError, Global};
 
-// The best plan is printed, from a standing plan that carries nothing.
+// The best plan is printed, from a standing plan that carries nothing. A struct to each way to answer, as `Canonical` is.
 pub struct PlanOnce;
 
 impl NetworkAnswer for PlanOnce {

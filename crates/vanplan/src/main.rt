@@ -1,15 +1,15 @@
-// vanplan: reads one network text from standard input and prints the planner's answer to it.
+// vanplan: reads one network text from standard input, plans once and prints the plan.
 #![tactic(auto)]
 
 ghost use Rattle.answers.specs.Answered.{Prints};
-ghost use Rattle.answers.specs.Printed.{PrintsStated};
+ghost use Rattle.plan_answers.specs.Printed.{PrintsStated};
 
-use answers::answer_text;
+use plan_answers::answer_text;
 use std::alloc::{AllocError, Global};
 use std::io;
 use text_program::{TextAnswer, answer_input};
 
-// The canonical text of the network that a text states, or its refusal.
+// The best plan on the network that a text states, or the refusal of the reading or of the planning.
 // A struct for this program, and no impl for every `NetworkAnswer`: so it prints what `answer_text` promises, in the same word.
 struct Vanplan;
 
