@@ -122,16 +122,17 @@ fn arc(s: &[u8]) -> Option<Line>
     )
 }
 
-// The line by its first letter, which tells its kind.
+// The line by its first letter, which tells its kind. Any byte is a character here; the letters are among the first 128, where both
+// have one number.
 fn by_letter(s: &[u8]) -> Option<Line>
     ensures { result ≡ scan s.now }
 {
     let (letter, rest) = s.split_first()?;
-    match *letter {
-        b'c' => comment(rest),
-        b'p' => problem(rest),
-        b'n' => node(rest),
-        b'a' => arc(rest),
+    match *letter as char {
+        'c' => comment(rest),
+        'p' => problem(rest),
+        'n' => node(rest),
+        'a' => arc(rest),
         _ => None,
     }
 }

@@ -8,4 +8,5 @@ mod taking;
 pub mod under_way;
 
 pub use reading::read;
+pub use taking::row_length;
 pub use under_way::Reader;

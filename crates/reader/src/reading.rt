@@ -50,6 +50,7 @@ fn enter(line: Line, arcs: usize, legs: &mut [Leg], stations: &mut [Station])
             let leg = Leg {
                 start: station_named(source),
                 end: station_named(target),
+                // no `From` of this kind exists, and the check proves that nothing is lost
                 capacity: capacity as u16,
                 charge: cost,
                 mark: Mark::Open,

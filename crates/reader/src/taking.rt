@@ -9,8 +9,8 @@ use crate::under_way::Reader;
 use lines::Line;
 use records::{MOST_TEXT, Refusal};
 
-// The number of bytes before the first line end.
-fn row_length(s: &[u8]) -> usize
+// The number of bytes before the first line end, of a network text or of any other.
+pub fn row_length(s: &[u8]) -> usize
     ensures row { first_row s.now ≡ take result s.now }
     ensures within { result ≤ length s.now }
     ensures rest { behind s.now ≡ drop (result + 1) s.now }

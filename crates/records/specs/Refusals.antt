@@ -23,7 +23,7 @@ number (BalanceTooLarge station) = 13
 number UnevenBalances = 14
 number (NoPlanObeys cut) = 15
 
--- 1 to 6: the line, counted from 1, or 0 where no line is at fault; 7 and 8: the station; 9, 10 and 12: the leg; 11 and 14: 0; 13: the station; 15: how many stations are in the cut
+-- 1: 0; 2 to 6: the line, counted from 1, and where a text ends too early the last line, 0 if it has none; 7 and 8: the station; 9, 10 and 12: the leg; 11 and 14: 0; 13: the station; 15: how many stations are in the cut
 abbrev pub place : Refusal → ℕ
 place TextTooLong = 0
 place (LineOutOfForm line) = line

@@ -10,10 +10,10 @@ pub const MOST_STATIONS: usize = 240;
 // No network has more legs.
 pub const MOST_LEGS: usize = 3000;
 
-// No leg carries more bikes.
+// No leg of a text or of a network that is planned on has room for more bikes.
 pub const MOST_CAPACITY: u16 = 500;
 
-// No bike costs more cents on a leg.
+// No bike costs more cents on such a leg.
 pub const MOST_CHARGE: u32 = 10_000;
 
 // No station reports a balance further from 0.

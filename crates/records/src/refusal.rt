@@ -70,21 +70,19 @@ impl Refusal {
         ensures { result ≡ place self.now }
     {
         match *self {
-            Refusal::TextTooLong => 0,
-            Refusal::LineOutOfForm { line } => line,
-            Refusal::LineOutOfOrder { line } => line,
-            Refusal::FieldOutOfRange { line } => line,
-            Refusal::TablesTooShort { line } => line,
-            Refusal::ArcsMiscounted { line } => line,
-            Refusal::StationNotOpen { station } => station,
-            Refusal::BalanceOutOfRange { station } => station,
-            Refusal::NotARoadLeg { leg } => leg,
-            Refusal::MarkUnchanged { leg } => leg,
-            Refusal::SliceTooShort => 0,
-            Refusal::SenselessLeg { leg } => leg,
-            Refusal::BalanceTooLarge { station } => station,
-            Refusal::UnevenBalances => 0,
+            Refusal::LineOutOfForm { line }
+            | Refusal::LineOutOfOrder { line }
+            | Refusal::FieldOutOfRange { line }
+            | Refusal::TablesTooShort { line }
+            | Refusal::ArcsMiscounted { line } => line,
+            Refusal::StationNotOpen { station }
+            | Refusal::BalanceOutOfRange { station }
+            | Refusal::BalanceTooLarge { station } => station,
+            Refusal::NotARoadLeg { leg }
+            | Refusal::MarkUnchanged { leg }
+            | Refusal::SenselessLeg { leg } => leg,
             Refusal::NoPlanObeys { cut } => cut,
+            Refusal::TextTooLong | Refusal::SliceTooShort | Refusal::UnevenBalances => 0,
         }
     }
 }

@@ -12,13 +12,20 @@ use std::io::{Read, Write};
 // One byte more than the longest text is enough to know that a text is too long. Cast: no `From` goes from usize to u64.
 const MOST_READ: u64 = MOST_TEXT as u64 + 1;
 
-// The first bytes of a reader.
-fn read_text<R: Read + Drop>(heap: Global, input: R) -> io::Result<Vec<u8>>
+// All bytes of a reader.
+pub fn read_all<R: Read + Drop>(heap: Global, mut input: R) -> io::Result<Vec<u8>>
+    ensures { IfOk result (λ v. IfSome (R.remaining input) (λ bytes. v.items ≡ bytes)) }
+{
+    let mut all = Vec::new(heap);
+    input.read_to_end(&mut all)?;
+    Ok(all)
+}
+
+// The first bytes of a reader, as many as a text may have and one more.
+pub fn read_text<R: Read + Drop>(heap: Global, input: R) -> io::Result<Vec<u8>>
     ensures { IfOk result (λ v. IfSome (R.remaining input) (λ bytes. v.items ≡ take 65537 bytes)) }
 {
-    let mut text = Vec::new(heap);
-    input.take(MOST_READ).read_to_end(&mut text)?;
-    Ok(text)
+    read_all(heap, input.take(MOST_READ))
 }
 
 // How a text is answered. A trait and no closure: what is promised cites a ghost member, which a closure has not.

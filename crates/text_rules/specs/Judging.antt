@@ -61,7 +61,7 @@ judged room p number l =
     (Err (FieldOutOfRange number)))
     (Err (LineOutOfOrder number))
 
--- the arcs announced have come; of so many lines, counted as the last line's number
+-- the header, where one came and as many arcs as it announced; else the refusal at the last line, whose number is given
 abbrev pub finished_by : Option Header → ℕ → ℕ → Result Header Refusal
 finished_by None arcs number = Err (ArcsMiscounted number)
 finished_by (Some h) arcs number = cond (arcs == h.arcs) (Ok h) (Err (ArcsMiscounted number))

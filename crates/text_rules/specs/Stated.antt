@@ -10,7 +10,7 @@
 --   Roomy              the tables suffice for every line
 --   Complete           a problem line came, and as many arc lines as it announced
 --   States             a text and the network that it states
---   Fitting            tables that are as long as a network
+--   Fitting            tables that are at least as long as a network
 --   TooLong, FaultAt, EndsEarly   the three ways in which a text is refused
 --   Refused            a text and the number and place of its refusal
 use Rattle.std.specs.Prelude.{◌≡◌, ℕ, ◌+◌, ◌-◌, ◌<◌, ◌≤◌, cond, ◌⊎◌, List, [], ◌∷◌, ◌++◌, map, length, ℤ, pos, ◌==◌}
@@ -90,7 +90,7 @@ pub record States (text : List ℕ) (net : StatedNetwork) : Type 0 where
   pub complete : Complete lines
   pub same : net ≡ network_of lines
 
--- the handed tables are as long as the network
+-- the handed tables are at least as long as the network
 abbrev pub Fitting : Room → StatedNetwork → Type 0
 Fitting room net = (length net.stations ≤ room.stations) × (length net.legs ≤ room.legs)
 

@@ -41,7 +41,7 @@ impl Progress {
         (1..=nodes).contains(&(id as usize))
     }
 
-    // Whether every field of the line lies in its range.
+    // Whether every field of the line lies in its range. A flow's range is a reported balance's, too, but judged on its own there.
     fn in_range(&self, line: Line) -> bool
         ensures { result ≡ in_range self.now line }
     {

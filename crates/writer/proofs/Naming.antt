@@ -1,5 +1,6 @@
 -- The lines that the canonical text is read as, newest first, and that they keep the rules.
 --   onto_nodes, onto_arcs       the lines of stations and of legs onto the lines before them
+--   node_keeps                  what a node line does not change is the same after a station's line, if it has one
 --   Reached                     lawful lines and the rows that spell them, behind a problem line
 --   nodes_reached, arcs_reached the lines of stations and of legs keep to that
 use Rattle.std.proofs.Common.{◌≡◌, ℕ, zero, suc, ◌+◌, ◌<◌, ◌≤◌, List, [], ◌∷◌, ◌++◌, map, length, ℤ, pos, negsuc, is_some, Some, refl, ap, ◌∙◌, subst, append_assoc, append-nil, arith}
@@ -86,10 +87,10 @@ with_node_append id (pos zero) rest = refl
 with_node_append id (pos (suc n)) rest = refl
 with_node_append id (negsuc n) rest = refl
 
-pub arc_lines_node : (id : ℕ) (z : ℤ) (before : List Line) → arc_lines (node_onto id z before) ≡ arc_lines before
-arc_lines_node id (pos zero) before = refl
-arc_lines_node id (pos (suc n)) before = refl
-arc_lines_node id (negsuc n) before = refl
+pub node_keeps : {X : Type 0} (f : List Line → X) (id : ℕ) (z : ℤ) (before : List Line) → ((w : ℤ) → f (Node id w ∷ before) ≡ f before) → f (node_onto id z before) ≡ f before
+node_keeps f id (pos zero) before same = refl
+node_keeps f id (pos (suc n)) before same = same (pos (suc n))
+node_keeps f id (negsuc n) before same = same (negsuc n)
 
 pub nodes_reached : (n m k : ℕ) (stations : List Station) (before : List Line) (rows : List (List ℕ)) → k + length stations ≤ n → n ≤ 240
     → AllByRecursion (λ s. Bounded s.balance) stations → arc_lines before ≡ 0 → Reached n m before rows
@@ -99,7 +100,7 @@ nodes_reached n m k (s ∷ rest) before rows within few h none r =
     let z = s.balance in
     let row = with_node (k + 1) z [] in
     let one = node_reached n m before rows r k z (omega arith) few h.0 none in
-    let all = nodes_reached n m (k + 1) rest (node_onto (k + 1) z before) (rows ++ row) (omega arith) few h.1 (arc_lines_node (k + 1) z before ∙ none) one in
+    let all = nodes_reached n m (k + 1) rest (node_onto (k + 1) z before) (rows ++ row) (omega arith) few h.1 (node_keeps arc_lines (k + 1) z before (λ _. refl) ∙ none) one in
     subst (Reached n m (onto_nodes (k + 1) rest (node_onto (k + 1) z before)))
     (append_assoc rows row (node_lines (k + 1) rest) ∙ ap (λ ls. rows ++ ls) (with_node_append (k + 1) z (node_lines (k + 1) rest))) all
 

@@ -7,30 +7,21 @@ use Rattle.std.proofs.lemmas.Bool.{cond-true, cond-false, eq-eqb, ne_eqb}
 use Rattle.records.specs.declared.leg.Leg.{Leg}
 use Rattle.records.specs.declared.station.Station.{Station}
 use Rattle.lines.specs.declared.line.Line.{Line}
-use Rattle.lines.specs.declared.line.Line.TheVariants.{Problem}
+use Rattle.lines.specs.declared.line.Line.TheVariants.{Problem, Node}
 use Rattle.text_rules.specs.Rules.{nodes_of, arcs_of, arc_lines}
 use Rattle.text_rules.specs.Stated.{States, leg_of, legs_of, balance_of, as_station, stations_of}
 use Rattle.writer.specs.Canonical.{problem_line, canonical_lines, canonical, ReadBack}
 use Rattle.text_rules.specs.Legal.{LegLawful, Legal}
 use Rattle.text_rules.proofs.Legal.{legal}
 use Rattle.writer.proofs.Spelling.{arc_of, problem_spelt, parted}
-use Rattle.writer.proofs.Naming.{node_onto, onto_nodes, onto_arcs, Reached, arc_lines_node, nodes_reached, arcs_reached}
+use Rattle.writer.proofs.Naming.{node_onto, onto_nodes, onto_arcs, Reached, node_keeps, nodes_reached, arcs_reached}
 
--- node lines state no leg
-legs_node : (id : ℕ) (z : ℤ) (before : List Line) → legs_of (node_onto id z before) ≡ legs_of before
-legs_node id (pos zero) before = refl
-legs_node id (pos (suc n)) before = refl
-legs_node id (negsuc n) before = refl
-
-legs_nodes : (k : ℕ) (stations : List Station) (before : List Line) → legs_of (onto_nodes k stations before) ≡ legs_of before
-legs_nodes k [] before = refl
-legs_nodes k (s ∷ rest) before =
-    legs_nodes (k + 1) rest (node_onto (k + 1) s.balance before) ∙ legs_node (k + 1) s.balance before
-
-arc_lines_nodes : (k : ℕ) (stations : List Station) (before : List Line) → arc_lines (onto_nodes k stations before) ≡ arc_lines before
-arc_lines_nodes k [] before = refl
-arc_lines_nodes k (s ∷ rest) before =
-    arc_lines_nodes (k + 1) rest (node_onto (k + 1) s.balance before) ∙ arc_lines_node (k + 1) s.balance before
+-- what no node line changes, as the legs that are stated
+nodes_keep : {X : Type 0} (f : List Line → X) → ((id : ℕ) (z : ℤ) (before : List Line) → f (Node id z ∷ before) ≡ f before) → (k : ℕ) (stations : List Station) (before : List Line)
+    → f (onto_nodes k stations before) ≡ f before
+nodes_keep f same k [] before = refl
+nodes_keep f same k (s ∷ rest) before =
+    nodes_keep f same (k + 1) rest (node_onto (k + 1) s.balance before) ∙ node_keeps f (k + 1) s.balance before (λ w. same (k + 1) w before)
 
 arc_lines_arcs : (legs : List Leg) (before : List Line) → arc_lines (onto_arcs legs before) ≡ arc_lines before + length legs
 arc_lines_arcs [] before = omega arith
@@ -57,9 +48,7 @@ balance_arcs (leg ∷ rest) before k = balance_arcs rest (arc_of leg ∷ before)
 
 -- a node line states the balance of its station and of no other
 balance_other : (id : ℕ) (z : ℤ) (before : List Line) (k : ℕ) → (id ≡ k + 1 → ⊥) → balance_of (node_onto id z before) k ≡ balance_of before k
-balance_other id (pos zero) before k ne = refl
-balance_other id (pos (suc n)) before k ne = cond-false (eqb id (k + 1)) _ _ (ne_eqb id (k + 1) ne)
-balance_other id (negsuc n) before k ne = cond-false (eqb id (k + 1)) _ _ (ne_eqb id (k + 1) ne)
+balance_other id z before k ne = node_keeps (λ lines. balance_of lines k) id z before (λ w. cond-false (eqb id (k + 1)) _ _ (ne_eqb id (k + 1) ne))
 
 balance_here : (k : ℕ) (z : ℤ) (before : List Line) → balance_of before k ≡ pos 0 → balance_of (node_onto (k + 1) z before) k ≡ z
 balance_here k (pos zero) before e = e
@@ -97,6 +86,9 @@ module _ (stations : List Station) (legs : List Leg) (l : Legal stations legs) w
   abbrev all_lines : List Line
   all_lines = onto_arcs legs with_nodes
 
+  no_arcs : arc_lines with_nodes ≡ 0
+  no_arcs = nodes_keep arc_lines (λ id z before. refl) 0 stations announcing
+
   first : Reached (length stations) (length legs) announcing (problem_line (length stations) (length legs) ∷ [])
   first =
       let s = problem_spelt (length stations) (length legs) l.few l.few_legs in
@@ -109,7 +101,7 @@ module _ (stations : List Station) (legs : List Leg) (l : Legal stations legs) w
 
   reached : Reached (length stations) (length legs) all_lines (canonical_lines stations legs)
   reached =
-      arcs_reached (length stations) (length legs) legs with_nodes _ (omega (arith, arc_lines_nodes 0 stations announcing)) l.few l.lawful_legs
+      arcs_reached (length stations) (length legs) legs with_nodes _ (omega (arith, no_arcs)) l.few l.lawful_legs
       (nodes_reached (length stations) (length legs) 0 stations _ _ (omega arith) l.few l.bounded refl first)
 
   stations_same : stations ≡ stations_of all_lines
@@ -120,7 +112,7 @@ module _ (stations : List Station) (legs : List Leg) (l : Legal stations legs) w
   legs_same : legs ≡ legs_of all_lines
   legs_same =
       sym (legs_arcs (length stations) legs with_nodes l.lawful_legs
-      ∙ ap (λ ls. ls ++ legs) (legs_nodes 0 stations announcing))
+      ∙ ap (λ ls. ls ++ legs) (nodes_keep legs_of (λ id z before. refl) 0 stations announcing))
 
   stated : length (canonical stations legs) ≤ 65536 → States (canonical stations legs) (record { stations = stations; legs = legs })
   stated short =
@@ -133,7 +125,7 @@ module _ (stations : List Station) (legs : List Leg) (l : Legal stations legs) w
         lawful = reached.lawful;
         complete = (
           ap is_some reached.problem,
-          arc_lines_arcs legs with_nodes ∙ ap (λ k. k + length legs) (arc_lines_nodes 0 stations announcing)
+          arc_lines_arcs legs with_nodes ∙ ap (λ k. k + length legs) no_arcs
               ∙ omega arith ∙ sym (ap arcs_of reached.problem),
         );
         same = λ i. record { stations = stations_same i; legs = legs_same i };
