@@ -24,7 +24,7 @@ use Rattle.network.specs.Nets.{Net, Rule, marks_of}
 abbrev pub reportable : ℤ → Bool
 reportable b = int_le (negsuc 499) b && int_le b (pos 500)
 
--- A fault is a number and a place, in which words the calls are told; `number` and `place` read both from a `Refusal`.
+-- A fault is a refusal as a caller sees it, a number and a place; `number` and `place` read both off a `Refusal`.
 -- 7 where the station is not open; else 8 where the number may not be reported; the place is the station
 abbrev pub report_fault : ℕ → ℕ → ℤ → Option (ℕ × ℕ)
 report_fault a s b = cond (nat_lt s a) (cond (reportable b) None (Some (8, s))) (Some (7, s))

@@ -87,7 +87,10 @@ pub trait Office: Network {
 pub fn balance_of<N: Network>(network: &N, station: usize) -> i32
     ensures { result ≡ slice_index_or (N.Network.meaning network.now).balances station (pos 0) }
 {
-    network.balance(station).unwrap_or(0)
+    let Some(balance) = network.balance(station) else {
+        return 0;
+    };
+    balance
 }
 
 // The sum of all balances.
@@ -99,7 +102,8 @@ pub fn total_balance<N: Network>(network: &N) -> i64
         .sum()
 }
 
-// Whether a station may report a balance, where so many stations are open.
+// Whether a station may report a balance, where so many stations are open. A flow of a network
+// text has the same range, but its line is judged as a whole.
 pub fn check_report(open_stations: usize, station: usize, balance: i32) -> Result<(), Refusal>
     ensures { Answers result (report_fault open_stations station balance) }
 {
@@ -119,7 +123,9 @@ pub fn check_mark<N: Network>(network: &N, leg: usize, mark: Mark) -> Result<(),
     if leg >= network.road_legs() {
         return Err(Refusal::NotARoadLeg { leg });
     }
-    let found = network.leg(leg).ok_or(Refusal::NotARoadLeg { leg })?;
+    let Some(found) = network.leg(leg) else {
+        return Err(Refusal::NotARoadLeg { leg });
+    };
     if found.mark == mark {
         return Err(Refusal::MarkUnchanged { leg });
     }

@@ -16,8 +16,8 @@ const MOST_ROW: usize = 40;
 // The most legs of a row: two for each station but the last.
 const MOST_ROW_LEGS: usize = 2 * (MOST_ROW - 1);
 
-// The row. Balances and marks beyond its stations and legs are not read. Arrays, and no vectors of fixed room: each of the two
-// would keep the number of stations a second time.
+// The row. Balances and marks beyond its stations and legs are not read. Arrays, and no vectors of fixed room: of two
+// vectors one would say the number of stations by its length, and the other would have to keep it again.
 #[derive(Drop)]
 pub struct Promenade {
     stations: usize,

@@ -1,16 +1,18 @@
 -- What one write to a lent record does to the table's meaning.
-use Rattle.std.proofs.Common.{◌≡◌, ℕ, ◌<◌, ◌≤◌, List, length, get_or, take, drop, set, ℤ, None, sym, ap, ◌∙◌, arith, w32, SFits, to_z, of_z}
+use Rattle.std.proofs.Common.{◌≡◌, ℕ, ◌<◌, ◌≤◌, List, length, get_or, take, drop, set, ℤ, None, sym, ap, refl, ◌∙◌, arith, w32, SFits, to_z, of_z}
 use Rattle.std.proofs.lemmas.List.{length-map, length-take, length-set, map-set, drop-set-lt, get_or-take}
-use Rattle.std.proofs.Math.Seq.{take-set-lt}
+use Rattle.std.proofs.Math.Seq.{map-set_same, take-set-lt}
 use Rattle.std.proofs.lemmas.Int.{to_z-of_z}
 use Rattle.records.specs.Cleared.{cleared_leg}
 use Rattle.records.specs.declared.leg.Leg.{Leg}
 use Rattle.records.specs.declared.leg.Mark.{Mark}
+use Rattle.records.specs.declared.leg.Mark.TheVariants.{Open}
 use Rattle.records.specs.declared.station.Station.{Station}
 use Rattle.network.specs.Nets.{Net, unasked, marks_of}
 use Rattle.network.specs.Offices.{report_fault, mark_fault, reported, remarked, with_mark}
 use Rattle.network.proofs.Faults.{report_open, mark_road}
 use Rattle.network.proofs.Reported.{all_open}
+use Rattle.table.specs.Lent.{unmarked}
 use Rattle.table.specs.Tables.{balances_of, table_of}
 
 -- a station that has the balance z
@@ -72,3 +74,7 @@ mark_there ls i k e = within_front 3000 ls i (mark_road (length (take 3000 ls)) 
 pub mark_keeps : (ls : List Leg) (i : ℕ) (k : Mark) → mark_fault (length (take 3000 ls)) (take 3000 ls) i k ≡ None
     → drop 3000 (set ls i (with_mark k (get_or ls i cleared_leg))) ≡ drop 3000 ls
 mark_keeps ls i k e = drop-set-lt 3000 ls i (with_mark k (get_or ls i cleared_leg)) (mark_there ls i k e).1
+
+-- nothing but the mark is written
+pub mark_alone : (ls : List Leg) (i : ℕ) (k : Mark) → unmarked (set ls i (with_mark k (get_or ls i cleared_leg))) ≡ unmarked ls
+mark_alone ls i k = map-set_same (with_mark Open) ls i (with_mark k (get_or ls i cleared_leg)) cleared_leg refl

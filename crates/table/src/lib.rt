@@ -2,8 +2,8 @@
 // records hold, also where that makes no sense; reports and closings are written into them.
 #![tactic(auto)]
 
-ghost use Rattle.std.specs.Prelude.{◌≡◌, drop};
-ghost use Rattle.table.specs.Lent.{kept_four};
+ghost use Rattle.std.specs.Prelude.{◌≡◌, drop, length};
+ghost use Rattle.table.specs.Lent.{kept_six, unmarked};
 ghost use Rattle.table.specs.Tables.{table_of, table_within};
 
 use network::{Network, Office, check_mark, check_report};
@@ -50,10 +50,11 @@ impl<'a> Network for Table<'a> {
 }
 
 impl<'a> Office for Table<'a> {
-    // which memory was lent, and its records beyond the limits
-    ghost kept = { λ s t. (t.legs.ghost_name ≡ s.legs.ghost_name) × (t.stations.ghost_name ≡ s.stations.ghost_name) × (drop 3000 t.legs.now ≡ drop 3000 s.legs.now) × (drop 240 t.stations.now ≡ drop 240 s.stations.now) };
+    // which memory was lent, its records beyond the limits, what leg records hold but for their marks, and how many station records there
+    // are: a layer above may show less of it
+    ghost kept = { λ s t. (t.legs.ghost_name ≡ s.legs.ghost_name) × (t.stations.ghost_name ≡ s.stations.ghost_name) × (drop 3000 t.legs.now ≡ drop 3000 s.legs.now) × (drop 240 t.stations.now ≡ drop 240 s.stations.now) × (unmarked t.legs.now ≡ unmarked s.legs.now) × (length t.stations.now ≡ length s.stations.now) };
 
-    ghost keeps = { kept_four (λ s. s.legs.ghost_name) (λ s. s.stations.ghost_name) (λ s. drop 3000 s.legs.now) (λ s. drop 240 s.stations.now) };
+    ghost keeps = { kept_six (λ s. s.legs.ghost_name) (λ s. s.stations.ghost_name) (λ s. drop 3000 s.legs.now) (λ s. drop 240 s.stations.now) (λ s. unmarked s.legs.now) (λ s. length s.stations.now) };
 
     fn report(&mut self, station: usize, balance: i32) -> Result<(), Refusal> {
         check_report(self.open_stations(), station, balance)?;

@@ -49,7 +49,10 @@ impl<N: Network> Network for VanLimit<N> {
     }
 
     fn leg(&self, number: usize) -> Option<Leg> {
-        self.below.leg(number).map(|leg| Leg {
+        let Some(leg) = self.below.leg(number) else {
+            return None;
+        };
+        Some(Leg {
             capacity: leg.capacity.min(self.limit),
             ..leg
         })

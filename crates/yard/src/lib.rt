@@ -12,7 +12,7 @@ use records::{
     Leg, MOST_BALANCE, MOST_CAPACITY, MOST_CHARGE, MOST_LEGS, MOST_STATIONS, Mark, Refusal,
 };
 
-// The balance of a yard is held this far from 0.
+// The balance of a yard is held this far from 0. A cast: no function is called in the value of a constant, `From` is one.
 const MOST_HELD: i64 = MOST_BALANCE as i64;
 
 // A network with a yard, whose legs all have one charge.
@@ -23,7 +23,7 @@ pub struct Yard<N> {
 }
 
 impl<N> Yard<N> {
-    // A charge of at most 10,000 cents; a higher number is taken as 10,000.
+    // A charge of at most 10,000 cents; a higher number is taken as 10,000. A van limit is made in the same way, from another limit.
     pub fn new(below: N, charge: u32) -> Yard<N>
         ensures { (result.below ≡ below) × (result.charge ≡ min charge 10000) }
     {
@@ -43,8 +43,8 @@ fn is_full(stations: usize, legs: usize) -> bool
     stations == MOST_STATIONS || legs + 2 * stations > MOST_LEGS
 }
 
-// A sum negated and held within -120,000 to 120,000. No `From` exists for the casts here and below, and the check proves that they
-// lose nothing.
+// A sum negated and held within -120,000 to 120,000. No `From` exists for this cast and for the two of the next function, and the check
+// proves that they lose nothing.
 fn hold(sum: i64) -> i32
     ensures { result ≡ held (neg_ℤ sum) }
 {
@@ -133,13 +133,17 @@ impl<N: Network> Network for Yard<N> {
     }
 
     fn leg(&self, number: usize) -> Option<Leg> {
-        self.below.leg(number).or_else(|| self.leg_above(number))
+        let Some(leg) = self.below.leg(number) else {
+            return self.leg_above(number);
+        };
+        Some(leg)
     }
 
     fn balance(&self, station: usize) -> Option<i32> {
-        self.below
-            .balance(station)
-            .or_else(|| self.balance_above(station))
+        let Some(balance) = self.below.balance(station) else {
+            return self.balance_above(station);
+        };
+        Some(balance)
     }
 }
 

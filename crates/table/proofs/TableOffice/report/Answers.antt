@@ -1,5 +1,5 @@
 use Rattle.std.proofs.Common.{◌≡◌, ◌<◌, length, take, None, refl, rules}
-use Rattle.std.proofs.lemmas.List.{drop-set-lt}
+use Rattle.std.proofs.lemmas.List.{drop-set-lt, length-set}
 use Rattle.network.specs.Offices.{report_fault}
 use Rattle.table.proofs.Writes.{report_clear, report_there, report_writes}
 use Rattle.table.proofs.TableOffice.report.Goals as goal
@@ -19,5 +19,5 @@ returns c =
     report_clear _ _ _ _ c.open_stations.ensures c.ranges.balance c.in_ok-check_report.ensures in
     record {
       answer = (e, report_writes _ _ _ _ e c.ranges.balance);
-      kept = (refl, refl, refl, drop-set-lt 240 _ _ _ (report_there _ _ c.args.balance e).1);
+      kept = (refl, refl, refl, drop-set-lt 240 _ _ _ (report_there _ _ c.args.balance e).1, refl, length-set _ _ _);
     }

@@ -1,6 +1,6 @@
 use Rattle.std.proofs.Common.{◌≡◌, ◌<◌, length, take, None, refl, rules}
 use Rattle.network.specs.Offices.{mark_fault}
-use Rattle.table.proofs.Writes.{mark_keeps, mark_there, mark_writes}
+use Rattle.table.proofs.Writes.{mark_alone, mark_keeps, mark_there, mark_writes}
 use Rattle.table.proofs.TableOffice.set_mark.Goals as goal
 
 clear : (c : goal.In_ok-check_mark) → mark_fault (length (take 3000 c.args.self.now.legs.now)) (take 3000 c.args.self.now.legs.now) c.args.leg c.args.mark ≡ None
@@ -18,5 +18,5 @@ returns c =
     c.in_ok-check_mark.ensures in
     record {
       answer = (e, mark_writes _ _ _ c.args.mark e);
-      kept = (refl, refl, mark_keeps c.args.self.now.legs.now c.args.leg c.args.mark e, refl);
+      kept = (refl, refl, mark_keeps c.args.self.now.legs.now c.args.leg c.args.mark e, refl, mark_alone c.args.self.now.legs.now c.args.leg c.args.mark, refl);
     }
