@@ -84,7 +84,7 @@ sent_along Back net plan k b f l h =
     let i = at_end_fewer (eqb (leg_at net k).end w) (amount plan k) b (bikes_in net plan w) (bikes_in net (shifted Back plan k b) w) h (in_set net plan k (amount plan k - b) f l w) in
     omega (arith, ints))
 
--- ---- one push after another
+-- ---- one push after another; both ways round, since a lemma for the two would have to be told how the ends between cancel
 pub unsent : (net : Net) (plan : List ℕ) (b u : ℕ) → Fits net plan → Sent net plan plan b u u
 unsent net plan b u f = by_ends net plan plan b u u f (λ w. omega (arith, ints))
 

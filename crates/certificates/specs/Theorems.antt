@@ -5,12 +5,14 @@
 --   PushesJoin             bikes sent from one station to a second and from there to a third are sent from the first to the third
 --   PushLowersOver         bikes sent from a station that has them over to one that lacks them are over no more
 --   NoRoundTrip            a certificate excludes round trips that total below zero, in pairs of cents and bikes
---   LabelsExtend           labels that no step undercuts on the reached stations, which no step leaves, are part of a certificate
+--   LabelsExtend           where there is a certificate, labels that no step undercuts on the reached stations, which no step leaves,
+--                          are part of one
 --   FirstIsCertified       the plan to start from fits, and the potential that is zero everywhere certifies it
 --   NothingLeftObeys       a plan that fits and leaves nothing over obeys
 --   BalancesTotal          the sum of the balances by number is that of their list
---   LeftOversSum           what a plan that fits leaves over sums to what the balances sum to
---   NoneOverObeys          where the balances sum to 0, a plan that fits and leaves no bikes over anywhere obeys
+--   LeftOversSum           where legs join stations, what a plan that fits leaves over sums to what the balances sum to
+--   NoneOverObeys          where legs join stations and the balances sum to 0, a plan that fits and leaves no bikes over
+--                          anywhere obeys
 use Rattle.std.specs.Prelude.{◌≡◌, ℕ, ◌+◌, ◌<◌, ◌≤◌, Bool, true, List, length, ℤ, pos, ◌+ℤ◌, ◌≤ℤ◌, fold, ◌≢◌}
 use Rattle.network.specs.Nets.{Net}
 use Rattle.plans.specs.Plans.{stations, leg_at, amount, balance_at, Fits, Obeys, EndsBelow}
@@ -72,7 +74,7 @@ NothingLeftObeys = (net : Net) (plan : List ℕ) → Fits net plan → ((v : ℕ
 abbrev pub BalancesTotal : Type 0
 BalancesTotal = (net : Net) → total_below (stations net) (balance_at net) ≡ fold ◌+ℤ◌ (pos 0) net.balances
 
--- whatever the plan, all stations together have left over what their balances sum to
+-- under any plan that fits, if legs join stations, all stations together have left over what their balances sum to
 abbrev pub LeftOversSum : Type 0
 LeftOversSum = (net : Net) (plan : List ℕ) → EndsBelow net → Fits net plan → total_below (stations net) (left_over net plan) ≡ total_below (stations net) (balance_at net)
 

@@ -13,7 +13,8 @@ pub fn push_changes_only_the_ends()
     ensures { PushMovesEnds }
 {}
 
-// Labels that no residual step undercuts, on stations that no residual step leaves, are part of a certificate.
+// Where a plan has a certificate, labels that no residual step undercuts, on stations that no residual step leaves, are part
+// of one.
 pub fn labels_extend_to_a_certificate()
     ensures { LabelsExtend }
 {}
@@ -29,12 +30,12 @@ pub fn nothing_left_over_obeys()
     ensures { NothingLeftObeys }
 {}
 
-// What a plan that fits leaves over at all stations sums to what the balances sum to.
+// Where every leg joins stations, what a plan that fits leaves over at all stations sums to what the balances sum to.
 pub fn left_overs_sum_to_the_balances()
     ensures { LeftOversSum }
 {}
 
-// Where the balances sum to 0, a plan that fits and leaves bikes over nowhere obeys.
+// Where every leg joins stations and the balances sum to 0, a plan that fits and leaves bikes over nowhere obeys.
 pub fn none_over_obeys()
     ensures { NoneOverObeys }
 {}

@@ -14,8 +14,8 @@ use steps::{Everywhere, InCents};
 
 // Writes the price of every station, if no round trip of residual steps totals below zero, and answers how the
 // search for them ended. Amounts that the plan lacks count as 0; the labels and the chains are for the search to work in.
-// The lines are those of `prices::prices` around another search: a function over both would take the search as a closure with
-// the contract of one, and the two contracts differ by the chains.
+// The lines are those of `prices::prices` around another search: a function over both would take the search as a closure or a trait
+// with the contract of one, and the two contracts differ by the chains.
 pub fn prices<N: Network>(
     net: &N,
     plan: &[u16],

@@ -6,7 +6,8 @@
 --   On         a leg whose step of one direction begins at a station
 --   Chained    chains that hold the legs below m
 --   Threaded   chains that hold all legs
---   SameChains   chains in the same slices
+--   SameChains   both slices stay lent, and keep their lengths; a clause of its own at each call, since a struct of `&mut` slices
+--                has no invariant over before and after
 --   put_next, put_forth, put_back   links after a leg was put at the head of its two chains
 use Rattle.std.specs.Prelude.{◌≡◌, ℕ, suc, ◌<◌, ◌≤◌, List, length, None, Some, Option, slice_index_or, slice_set}
 use Rattle.records.specs.declared.leg.Leg.{Leg}

@@ -63,9 +63,10 @@ impl Chains<'_> {
         ensures chained { Chained (N.Network.meaning net.now) number self.old.heads.now self.old.nexts.now → Chained (N.Network.meaning net.now) (suc number) self.new.heads.now self.new.nexts.now }
         ensures stay { SameChains self.old self.new }
     {
-        if let Some(leg) = joined_leg(net, number) {
-            self.put(number, leg);
-        }
+        let Some(leg) = joined_leg(net, number) else {
+            return;
+        };
+        self.put(number, leg);
     }
 
     // Builds the chains of all legs.

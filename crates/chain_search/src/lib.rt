@@ -20,7 +20,8 @@ use walks::ByChains;
 // The cheapest walk to every station, from the starting stations at zero, over the residual steps
 // of a plan at their fees. Amounts that the plan lacks count as 0. It writes a label for each
 // station, and says whether the labels are least totals or a round trip below zero can be reached.
-// The chains, with a head for each station and a next for each leg, are for it to work in.
+// The chains, with a head for each station and a next for each leg, are for it to work in. Network, plan and fees come one by one, as
+// callers have them.
 pub fn search<'a, N: Network, C: Cost, F: Fees<C>, S: Belongs>(
     net: &'a N,
     plan: &'a [u16],

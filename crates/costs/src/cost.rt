@@ -4,7 +4,7 @@ ghost use Rattle.std.specs.Prelude.{◌≡◌, ℕ, ◌+◌, ◌^◌, ◌≤◌,
 use theory::Grouped;
 
 // A cost stands for its worth, a member of the ordered group of its kind. Its size says how far its parts are from zero:
-// within 2^40 a sum and a negative are exact, and beyond that they stop at a limit.
+// within 2^40 a sum and a negative are exact. What a number does beyond that is in `Count`; of other kinds nothing is said there.
 // Methods of its own and no `Default`, `Add`, `Neg`, `Ord`: what those promise says nothing of worths.
 pub trait Cost: Grouped + Copy + Drop {
     ghost size: { Self → ℕ };

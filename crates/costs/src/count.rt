@@ -14,7 +14,7 @@ use theory::Grouped;
 pub struct Count<K>(pub i64, PhantomData<K>);
 
 impl<K> Count<K> {
-    // That many.
+    // That many. No `From`: a call says of which kind the number is.
     pub const fn new(number: i64) -> Count<K>
         ensures { result.0 ≡ number }
     {

@@ -12,6 +12,7 @@
 --   cents          what a plan costs
 --   apart          the larger of two amounts less the smaller
 --   difference     how far a plan is from the standing plan
+--   SameAmounts    two lists, as long or not, have the same amounts on the legs of a network
 --   CheapestThenNearest   the best plan
 --   EndsBelow      the legs lead from stations to stations
 use Rattle.std.specs.Prelude.{◌≡◌, ℕ, zero, suc, ◌+◌, ◌-◌, ◌*◌, ◌<◌, ◌≤◌, cond, List, length, ℤ, pos, ◌-ℤ◌, ◌==◌, slice_index, slice_index_or}
@@ -74,6 +75,9 @@ apart x y = (x - y) + (y - x)
 -- the sum over the legs of the larger amount less the smaller; standing amounts past the legs are not looked at
 abbrev pub difference : Net → List ℕ → List ℕ → ℕ
 difference net standing plan = sum_below (length net.legs) (λ k. apart (amount plan k) (amount standing k))
+
+abbrev pub SameAmounts : Net → List ℕ → List ℕ → Type 0
+SameAmounts net one other = (k : ℕ) → k < length net.legs → amount one k ≡ amount other k
 
 -- every other plan that obeys has at least its cents and, if equal, at least its difference
 pub record CheapestThenNearest (net : Net) (standing plan : List ℕ) : Type 0 where

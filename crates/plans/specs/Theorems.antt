@@ -1,9 +1,9 @@
 -- What is proved of plans, prices and cuts.
---   CertifiedIsBest          a potential that no step undercuts shows a plan to be cheapest, then nearest
+--   CertifiedIsBest          where legs join stations, a potential that no step undercuts shows a plan that obeys to be the best
 --   CertifiedHasNoRoundTrip  it also excludes round trips below zero
 --   BestHasNoRoundTrip       a plan that is cheapest, then nearest admits no round trip below zero
---   CutExcludesPlans         where there is a cut, no plan obeys
---   UncrossedIsCut           stations that no step leaves, with bikes left over and none lacking, are a cut
+--   CutExcludesPlans         where legs join stations and there is a cut, no plan obeys
+--   UncrossedIsCut           where legs join stations, those that no step leaves, with bikes left over and none lacking, are a cut
 --   PricesMeetReducedCost    price(end) ≤ price(start) + cents for every step, where no round trip totals below zero
 --   PricesAreUnique          a station has one price at most
 --   PricesExist              every station has a price, and no walk totals less, where no round trip totals below zero

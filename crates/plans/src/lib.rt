@@ -8,7 +8,7 @@ pub mod direction;
 
 pub use direction::Direction;
 
-// A plan that obeys is cheapest, then nearest, if no residual step undercuts some potential.
+// Where every leg joins stations, a plan that obeys is cheapest, then nearest, if no residual step undercuts some potential.
 pub fn certified_plan_is_cheapest_then_nearest()
     ensures { CertifiedIsBest }
 {}
@@ -23,12 +23,13 @@ pub fn best_plan_has_no_round_trip_below_zero()
     ensures { BestHasNoRoundTrip }
 {}
 
-// Where there is a cut, no plan obeys.
+// Where every leg joins stations and there is a cut, no plan obeys.
 pub fn cut_excludes_plans()
     ensures { CutExcludesPlans }
 {}
 
-// Stations that no residual step leaves are a cut if bikes are left over at one of them and none of them lacks any.
+// Where every leg joins stations, those that no residual step of a plan that fits leaves are a cut if bikes are left over at
+// one of them and none of them lacks any.
 pub fn uncrossed_stations_are_a_cut()
     ensures { UncrossedIsCut }
 {}

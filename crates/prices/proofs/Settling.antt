@@ -1,5 +1,6 @@
 -- From what the search says at cents, from every station, to prices.
-use Rattle.std.proofs.Common.{◌≡◌, ℕ, ◌<◌, ◌≤◌, true, List, [], ◌++◌, length, take, drop, length-take, ℤ, pos, sym, refl, subst, ◌∙◌, inl, inr, arith}
+use Rattle.std.proofs.Common.{◌≡◌, ℕ, ◌<◌, ◌≤◌, true, List, [], ◌++◌, length, take, drop, length-take, ℤ, pos, sym, refl, ap, subst, ◌∙◌, inl, inr, arith}
+use Rattle.std.proofs.lemmas.List.FromFn.{fill_by_all}
 use Rattle.std.proofs.lemmas.Slice.{drop-append-drop}
 use Rattle.std.proofs.Math.ListN.{get_or-append}
 use Rattle.network.specs.Nets.{Net}
@@ -19,7 +20,7 @@ use Rattle.search.specs.declared.label.Label.{Label}
 use Rattle.search.specs.declared.outcome.Outcome.TheVariants.{Settled}
 use Rattle.search.proofs.Optional.{option_cases}
 use Rattle.search.proofs.Stepping.{ends}
-use Rattle.prices.specs.Priced.{cents_fee, price_at, price_in, Writes, Prices, Found, Written}
+use Rattle.prices.specs.Priced.{cents_fee, price_at, price_in, totals, Writes, Prices, Found, Written}
 
 -- where walks start at the end of every step, every round trip below zero is reached
 module _ {A : Type 0} (G : OrderedGroup A) (F : ℕ → Type 0) (S : ℕ → ℕ → A → Type 0) (starts : (u v : ℕ) (c : A) → S u v c → F v) where
@@ -92,3 +93,10 @@ writes_before n ls prices written few long w =
 -- what an outcome stands for
 pub written : (net : Net) (plan : List ℕ) (ls : List (Label Cents)) (before after : List ℤ) → Found net plan Settled ls → Writes (stations net) ls before after → Written net plan Settled before after
 written net plan ls before after z w = (no_trip_of net plan z.no_trip, prices_of net plan ls z before after w, w.beyond)
+
+-- written entries and those beyond, as one list
+pub as_totals : (n k : ℕ) (ls : List (Label Cents)) (prices written : List ℤ) → n ≤ length prices → length written ≡ n → Writes (length (take n prices)) ls (take n prices) written → n ≡ k
+    → written ++ drop n prices ≡ totals k ls ++ drop k prices
+as_totals n k ls prices written few long w e =
+    let each : (v : ℕ) → v < n → price_at written v ≡ price_in (label_at ls v) = λ v l. w.each v (omega (arith, few, length-take n prices)) in
+    ap (λ ps. ps ++ drop n prices) (fill_by_all (λ v. price_in (label_at ls v)) written n (pos 0) long each) ∙ ap (λ j. totals j ls ++ drop j prices) e

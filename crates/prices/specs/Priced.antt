@@ -2,13 +2,16 @@
 --   total_in    the total of an arrival
 --   price_in    the total in a label
 --   price_at    the price of a station among those written
+--   totals      the totals of the first labels
+--   prices_after   prices after a writing, by the outcome of the search
 --   Writes      prices after the totals of labels were written
 --   Prices      every station has its price, and no step undercuts them
 --   cents_fee   what steps cost in cents
 --   Found       what an outcome of a search in cents from everywhere stands for
 --   Written     prices after a search, by its outcome
 --   Priced      what the call answers and leaves
-use Rattle.std.specs.Prelude.{◌≡◌, ℕ, ◌<◌, ◌≤◌, true, ◌⊎◌, List, length, drop, ℤ, pos, ◌+ℤ◌, ◌≤ℤ◌, Some, None, Ok, Err, Option, Result, slice_index_or}
+use Rattle.std.specs.Prelude.{◌≡◌, ℕ, ◌<◌, ◌≤◌, true, ◌⊎◌, List, ◌++◌, map, length, drop, ℤ, pos, ◌+ℤ◌, ◌≤ℤ◌, Some, None, Ok, Err, Option, Result, slice_index_or}
+use Rattle.std.specs.List.{range_with_len}
 use Rattle.records.specs.declared.refusal.Refusal.{Refusal}
 use Rattle.records.specs.declared.refusal.Refusal.TheVariants.{SliceTooShort}
 use Rattle.network.specs.Nets.{Net}
@@ -36,6 +39,15 @@ price_in l = total_in l.arrival
 
 abbrev pub price_at : List ℤ → ℕ → ℤ
 price_at ps v = slice_index_or ps v (pos 0)
+
+-- of k labels; 0 where a label is missing
+abbrev pub totals : ℕ → List (Label Cents) → List ℤ
+totals k ls = map (λ v. price_in (label_at ls v)) (range_with_len 0 k)
+
+-- settled: the first k labels' totals, and then what stood beyond; round trip: all stays
+abbrev pub prices_after : Outcome → ℕ → List (Label Cents) → List ℤ → List ℤ
+prices_after Settled k ls before = totals k ls ++ drop k before
+prices_after RoundTrip k ls before = before
 
 -- those beyond n stay
 pub record Writes (n : ℕ) (ls : List (Label Cents)) (before after : List ℤ) : Type 0 where

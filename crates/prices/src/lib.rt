@@ -1,9 +1,9 @@
 // Prices of stations: the least totals in cents of simple walks on the residual network of a plan.
 #![tactic(auto)]
 
-ghost use Rattle.std.specs.Prelude.{◌≡◌, ℕ, ◌≤◌, List, length};
+ghost use Rattle.std.specs.Prelude.{◌≡◌, ℕ, ◌≤◌, min, List, length};
 ghost use Rattle.plans.specs.Plans.{stations as count_of};
-ghost use Rattle.prices.specs.Priced.{Found, Priced, Writes, Written, price_in};
+ghost use Rattle.prices.specs.Priced.{Found, Priced, Writes, Written, price_in, prices_after};
 
 use costs::Cents;
 use network::Network;
@@ -29,14 +29,15 @@ fn write(labels: &[Label<Cents>], prices: &mut [i64])
 }
 
 // Writes the price of every station from the labels of a search in cents from everywhere, if it has
-// settled.
+// settled. Whatever the labels are, their totals are written, as many as there are stations and entries for them.
 pub fn write_prices<N: Network>(
     net: &N,
     outcome: Outcome,
     labels: &[Label<Cents>],
     prices: &mut [i64],
 )
-    ensures { (plan : List ℕ) → count_of (N.Network.meaning net.now) ≤ length labels.now → count_of (N.Network.meaning net.now) ≤ length prices.old → Found (N.Network.meaning net.now) plan outcome labels.now → Written (N.Network.meaning net.now) plan outcome prices.old prices.new }
+    ensures priced { (plan : List ℕ) → count_of (N.Network.meaning net.now) ≤ length labels.now → count_of (N.Network.meaning net.now) ≤ length prices.old → Found (N.Network.meaning net.now) plan outcome labels.now → Written (N.Network.meaning net.now) plan outcome prices.old prices.new }
+    ensures written { prices.new ≡ prices_after outcome (min (count_of (N.Network.meaning net.now)) (length prices.old)) labels.now prices.old }
 {
     if let Outcome::Settled = outcome {
         let stations = net.stations().min(prices.len());

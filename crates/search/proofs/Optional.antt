@@ -1,10 +1,11 @@
 -- Labels and worths that are there or absent.
 use Rattle.std.proofs.Common.{◌≡◌, ℕ, ◌<◌, Bool, true, false, ◌≢◌, ◌⊎◌, List, length, set, Some, None, Option, refl, inl, inr, get_or-set_other, get_or-set_same}
 use Rattle.std.proofs.lemmas.Option.{none-some, same_Some}
+use Rattle.std.specs.Option.{option_or}
 use Rattle.theory.specs.declared.Grouped.{Ghosts as Kind}
 use Rattle.theory.specs.Groups.{OrderedGroup, cancel}
 use Rattle.theory.specs.Walks.{AtMost}
-use Rattle.search.specs.Labels.{label_at, held, lowest, fresh_of, unlabelled}
+use Rattle.search.specs.Labels.{label_at, held, fresh_of, unlabelled}
 use Rattle.search.specs.declared.label.Arrival.{Arrival}
 use Rattle.search.specs.declared.label.Label.{Label}
 
@@ -51,6 +52,6 @@ module _ {C : Type 0} (K : Kind C) where
   held_is o y t e h = rw e h
 
   -- what is found is lower than what is held
-  pub under_lowest : (b o : Option (Arrival C)) (y : Arrival C) (t : K.Member) → o ≡ Some y → ((x : Arrival C) → b ≡ Some x → K.group.le (K.worth y.total) (K.worth x.total) → ⊥) → K.group.le (K.worth y.total) t → AtMost K.group (held K (lowest b o)) t
+  pub under_lowest : (b o : Option (Arrival C)) (y : Arrival C) (t : K.Member) → o ≡ Some y → ((x : Arrival C) → b ≡ Some x → K.group.le (K.worth y.total) (K.worth x.total) → ⊥) → K.group.le (K.worth y.total) t → AtMost K.group (held K (option_or b o)) t
   under_lowest None o y t e low h = rw e h
   under_lowest (Some x) o y t e low h = K.group.le_trans _ _ _ (turned K.group _ _ (low x refl)) h

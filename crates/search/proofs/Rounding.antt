@@ -2,12 +2,13 @@
 use Rattle.std.proofs.Common.{◌≡◌, ℕ, suc, ◌*◌, ◌<◌, ◌≤◌, Bool, true, false, cond, ◌⊎◌, List, [], ◌∷◌, length, Some, None, Option, sym, refl, ap, ◌∙◌, subst, inl, inr, arith}
 use Rattle.std.proofs.lemmas.Option.{none-some, same_Some}
 use Rattle.std.proofs.lemmas.Bool.{cases_Bool, both_ways}
+use Rattle.std.specs.Option.{option_or}
 use Rattle.theory.specs.declared.Grouped.{Ghosts as Kind}
 use Rattle.theory.specs.Walks.{Walk, start, step, AtMost}
 use Rattle.theory.proofs.Adding.{shift_right}
 use Rattle.theory.proofs.Walking.{at_most_up}
 use Rattle.steps.specs.declared.step.Step.{Step}
-use Rattle.search.specs.Labels.{label_at, best, held, lowest, committed_by}
+use Rattle.search.specs.Labels.{label_at, best, held, committed_by}
 use Rattle.search.specs.Sweeps.{Sweep, Visited}
 use Rattle.search.specs.Rounds.{Attained, CameBy, Came, After, Late, Commits, Still}
 use Rattle.search.specs.declared.label.Arrival.{Arrival}
@@ -63,9 +64,9 @@ module _ {C : Type 0} (K : Kind C) (size : C → ℕ) (n : ℕ) (F : ℕ → Typ
   best_new : (v : ℕ) (t : K.Member) → v < n → AtMost K.group (best K (label_at mid v)) t → AtMost K.group (held K (label_at new v).arrival) t
   best_new v t h q =
       elim (turn v h) [
-        | inl g ↦ held_is K (label_at new v).arrival g.to t g.after (subst (λ b. AtMost K.group (held K (lowest b (label_at mid v).arrival)) t) g.found q)
+        | inl g ↦ held_is K (label_at new v).arrival g.to t g.after (subst (λ b. AtMost K.group (held K (option_or b (label_at mid v).arrival)) t) g.found q)
         | inr g ↦
-            let q' : AtMost K.group (held K (label_at mid v).arrival) t = subst (λ b. AtMost K.group (held K (lowest b (label_at mid v).arrival)) t) g.found q in
+            let q' : AtMost K.group (held K (label_at mid v).arrival) t = subst (λ b. AtMost K.group (held K (option_or b (label_at mid v).arrival)) t) g.found q in
             subst (λ o. AtMost K.group (held K o) t) (s.arrival v ∙ sym g.after) q'
       ]
 

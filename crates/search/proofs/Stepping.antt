@@ -11,9 +11,8 @@ use Rattle.plans.specs.Residuals.{forward, backward}
 use Rattle.plans.specs.Residuals as residuals
 use Rattle.steps.specs.declared.load.Load.{Load}
 use Rattle.steps.specs.declared.step.Step.{Step}
-use Rattle.steps.specs.Fees.{paid}
 use Rattle.steps.specs.Loads.{Over}
-use Rattle.search.specs.Searches.{From, StepOf, OverOf, Settles, fee_worth}
+use Rattle.search.specs.Searches.{From, StepOf, OverOf, Settles}
 use Rattle.search.specs.Sweeps.{Sweeps}
 use Rattle.search.specs.Rounds.{AfterOf, LateOf, Begins, Commits, RoundMore, Ends, Still}
 use Rattle.search.specs.declared.label.Label.{Label}
@@ -39,29 +38,24 @@ module _ {A : Type 0} (net : Net) (plan : List ℕ) (cost : Direction → ℕ �
   out u v c (backward k j e f r q) = (record { direction = Back; leg = k }, record { joined = j; begins = e; ends = f; takes = r; costs = q })
 
 module _ {C : Type 0} (K : Kind C) (size : C → ℕ) (net : Net) (plan : List ℕ) (cost : Direction → Load → C) (f : ℕ → Bool) where
-  -- what the steps cost
-  abbrev paid_worth : Direction → ℕ → K.Member
-  paid_worth = paid (fee_worth K net plan cost) net plan
-
   pub round_of : (r : Bool) (old mid new : List (Label C)) → Sweeps K size net plan cost (stations net) old mid → Commits (stations net) r mid new → RoundMore K size net plan cost f r old new
   round_of r old mid new sweep p k bound a =
-      let Q = paid_worth in
       let s = sweep old (sweep_none K size (stations net) (OverOf K net plan cost) old a.calm (λ v x h e. omega (arith, a.small v x h e))) in (
-        round_more K size (stations net) (From net f) (StepOf K net plan cost) (OverOf K net plan cost) (λ v q. q.0) (ends net plan Q) (into net plan Q) (out net plan Q) k r old mid new a s.0 s.1 p,
-        round_still K size (stations net) (From net f) (StepOf K net plan cost) (OverOf K net plan cost) (λ v q. q.0) (ends net plan Q) (into net plan Q) (out net plan Q) k r old mid new a s.0 s.1 p,
-        round_late K size (stations net) (From net f) (StepOf K net plan cost) (OverOf K net plan cost) (λ v q. q.0) (ends net plan Q) (into net plan Q) (out net plan Q) k r old mid new a s.0 s.1 p,
+        round_more K size (stations net) (From net f) (StepOf K net plan cost) (OverOf K net plan cost) (λ v q. q.0) (ends net plan _) (into net plan _) (out net plan _) k r old mid new a s.0 s.1 p,
+        round_still K size (stations net) (From net f) (StepOf K net plan cost) (OverOf K net plan cost) (λ v q. q.0) (ends net plan _) (into net plan _) (out net plan _) k r old mid new a s.0 s.1 p,
+        round_late K size (stations net) (From net f) (StepOf K net plan cost) (OverOf K net plan cost) (λ v q. q.0) (ends net plan _) (into net plan _) (out net plan _) k r old mid new a s.0 s.1 p,
         p.beyond ∙ s.0.beyond,
       )
 
   settled_of : (k : ℕ) (ls : List (Label C)) → AfterOf K size net plan cost f k ls → (1 ≤ stations net → k ≤ stations net) → Still (stations net) ls → Settles K (stations net) (From net f) (StepOf K net plan cost) (OverOf K net plan cost) ls
-  settled_of k ls a few still = settles K size (stations net) (From net f) (StepOf K net plan cost) (OverOf K net plan cost) (ends net plan paid_worth) (into net plan paid_worth) k ls a few still
+  settled_of k ls a few still = settles K size (stations net) (From net f) (StepOf K net plan cost) (OverOf K net plan cost) (ends net plan _) (into net plan _) k ls a few still
 
   late_of : (m : ℕ) → stations net ≡ suc m → LateOf K size net plan cost f (suc m) → Reached K.group (From net f) (StepOf K net plan cost)
-  late_of m e l = late_trip K size (stations net) (From net f) (StepOf K net plan cost) (OverOf K net plan cost) (ends net plan paid_worth) (into net plan paid_worth) m e l
+  late_of m e l = late_trip K size (stations net) (From net f) (StepOf K net plan cost) (OverOf K net plan cost) (ends net plan _) (into net plan _) m e l
 
   pub begun_of : (old ls : List (Label C)) → Begins K size (stations net) f old ls → AfterOf K size net plan cost f 0 ls
   begun_of old ls b =
-      after_none K size (stations net) (From net f) (StepOf K net plan cost) (OverOf K net plan cost) (ends net plan paid_worth) (into net plan paid_worth) f (λ v h q. (h, q)) (λ v q. q) old ls b
+      after_none K size (stations net) (From net f) (StepOf K net plan cost) (OverOf K net plan cost) (ends net plan _) (into net plan _) f (λ v h q. (h, q)) (λ v q. q) old ls b
 
   -- ---- the loop over rounds: after i of them, the last of which changed a label
   abbrev pub SoFar : ℕ → List (Label C) → List (Label C) → Type 0

@@ -15,7 +15,7 @@ use Rattle.steps.specs.declared.step.Step.{Step}
 use Rattle.steps.specs.Loads.{load_of}
 use Rattle.search.specs.Labels.{label_at, best, with_better, fresh}
 use Rattle.search.specs.Searches.{OverOf}
-use Rattle.search.specs.Sweeps.{Offered, Falls, Found, Sweep, Relaxes, CrossesBy, Crosses, Passes, Sweeps, PassedOf}
+use Rattle.search.specs.Sweeps.{Offered, Falls, Found, Sweep, Relaxes, CrossesBy, Crosses, Sweeps, SweepOf, PassedOf}
 use Rattle.search.specs.declared.label.Arrival.{Arrival}
 use Rattle.search.specs.declared.label.Label.{Label}
 use Rattle.search.proofs.Optional.{fresh_some, fresh_is, label_same, label_other, undercut, under_lowest}
@@ -156,7 +156,11 @@ module _ {C : Type 0} (K : Kind C) (size : C → ℕ) (net : Net) (plan : List �
       by m n Forth = m
       by m n Back = n
 
-  pub passes_more : (m : ℕ) (a b c : List (Label C)) → Passes K size net plan cost m a b → Crosses K size net plan cost m b c → Passes K size net plan cost (m + 1) a c
+  -- what relaxing the steps of all legs below m does
+  abbrev pub Passes : ℕ → List (Label C) → List (Label C) → Type 0
+  Passes m before after = (old : List (Label C)) → SweepOf K size net plan cost old before → SweepOf K size net plan cost old after × ((s : Step) → s.leg < m → PassedOf K size net plan cost s old after)
+
+  pub passes_more : (m : ℕ) (a b c : List (Label C)) → Passes m a b → Crosses K size net plan cost m b c → Passes (m + 1) a c
   passes_more m a b c passed crossed old s =
       let p = passed old s in
       let q = crossed old p.0 in (
@@ -168,5 +172,5 @@ module _ {C : Type 0} (K : Kind C) (size : C → ℕ) (net : Net) (plan : List �
       )
 
   -- every step goes over a leg
-  pub passes_all : (a b : List (Label C)) → Passes K size net plan cost (length net.legs) a b → Sweeps K size net plan cost (stations net) a b
+  pub passes_all : (a b : List (Label C)) → Passes (length net.legs) a b → Sweeps K size net plan cost (stations net) a b
   passes_all a b passed old s = let p = passed old s in (p.0, λ u h l y i j v c t. p.1 l t.joined.there u y i j v c t)

@@ -2,13 +2,13 @@
 --   unlabelled   a label of which nothing is known
 --   label_at     the label of a station
 --   held         the worth of an arrival, if there is one
---   lowest       of two arrivals the first, if there is one
 --   best         the worth of what a label has found or holds
 --   fresh, fresh_of           the total of a label that the round before changed, and of its two parts
 --   committed, committed_by   a label at the end of a round, and of its two parts
 --   with_better  a label with what the round has found
 --   begun        a label before the first round
 use Rattle.std.specs.Prelude.{ℕ, Bool, true, false, List, Some, None, Option, slice_index_or}
+use Rattle.std.specs.Option.{option_or}
 use Rattle.theory.specs.declared.Grouped.{Ghosts as Kind}
 use Rattle.search.specs.declared.label.Arrival.{Arrival}
 use Rattle.search.specs.declared.label.Label.{Label}
@@ -23,12 +23,9 @@ abbrev pub held : {C : Type 0} (K : Kind C) → Option (Arrival C) → Option K.
 held K None = None
 held K (Some x) = Some (K.worth x.total)
 
-abbrev pub lowest : {C : Type 0} → Option (Arrival C) → Option (Arrival C) → Option (Arrival C)
-lowest None o = o
-lowest (Some x) o = Some x
-
+-- what the round has found is lower than what the label holds
 abbrev pub best : {C : Type 0} (K : Kind C) → Label C → Option K.Member
-best K l = held K (lowest l.better l.arrival)
+best K l = held K (option_or l.better l.arrival)
 
 -- of the mark and the arrival of a label
 abbrev pub fresh_of : {C : Type 0} → Bool → Option (Arrival C) → Option C

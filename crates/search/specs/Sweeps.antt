@@ -9,7 +9,6 @@
 --   SweepOf, RelaxedOf, VisitedOf, PassedOf   the same, of the residual steps of a plan
 --   Relaxes    what relaxing one step does to a round
 --   CrossesBy, Crosses   what relaxing the steps of a leg does, of one direction and of both
---   Passes     what relaxing the steps of all legs below m does
 --   Sweeps     what relaxing the steps from all stations below i does
 use Rattle.std.specs.Prelude.{◌≡◌, ℕ, ◌+◌, ◌^◌, ◌<◌, ◌≤◌, true, ◌⊎◌, List, length, drop, Some, slice_set}
 use Rattle.network.specs.Nets.{Net}
@@ -92,9 +91,6 @@ module _ {C : Type 0} (K : Kind C) (size : C → ℕ) (net : Net) (plan : List �
 
   abbrev pub Crosses : ℕ → List (Label C) → List (Label C) → Type 0
   Crosses k before after = (old : List (Label C)) → SweepOf old before → SweepOf old after × Falls K before after × ((d : Direction) → PassedOf (record { direction = d; leg = k }) old after)
-
-  abbrev pub Passes : ℕ → List (Label C) → List (Label C) → Type 0
-  Passes m before after = (old : List (Label C)) → SweepOf old before → SweepOf old after × ((s : Step) → s.leg < m → PassedOf s old after)
 
   abbrev pub Sweeps : ℕ → List (Label C) → List (Label C) → Type 0
   Sweeps i before after = (old : List (Label C)) → SweepOf old before → SweepOf old after × ((u : ℕ) → u < i → VisitedOf u old after)

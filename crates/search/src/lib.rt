@@ -23,6 +23,7 @@ pub use sweeps::Sweep;
 // The cheapest walk to every station, from the starting stations at zero, over the residual steps
 // of a plan at their fees. Amounts that the plan lacks count as 0. It writes a label for each
 // station, and says whether the labels are least totals or a round trip below zero can be reached.
+// Network, plan and fees come one by one, as callers have them; `Residual` joins them for the rounds.
 pub fn search<N: Network, C: Cost, F: Fees<C>, S: Belongs>(
     net: &N,
     plan: &[u16],

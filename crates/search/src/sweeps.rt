@@ -11,8 +11,8 @@ use costs::Cost;
 
 // A way to relax every step from a label that the round before changed, of a plan on a network. What a step costs
 // follows from its direction, the leg and the amount it carries. A trait and no closure: what it promises cites ghost members, which a
-// closure has not; two impls say the same of them, since no impl can take them from another. That there is a label for every station stands in each contract:
-// a struct of the lent labels with that fact would have to show it again at each write.
+// closure has not; two impls say the same of them, since no impl can take them from another. That there is a label for every station
+// stands in each contract: a struct of the lent labels with that fact would have to show it again at each write.
 pub trait Sweep<C: Cost> {
     ghost net: { Self → Net };
 

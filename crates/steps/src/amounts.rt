@@ -5,7 +5,7 @@ ghost use Rattle.plans.specs.Plans.{amount, in_force};
 use records::{Leg, Mark};
 
 // The amount of a leg by its number; one that is missing counts as 0. It is `get` and `unwrap_or` of the
-// library under a name; `Draft::left_at` is the same of another type.
+// library under a name. `Draft::left_at` is the same of another type: one generic function over both would be `get` and `unwrap_or` again.
 pub fn amount_at(amounts: &[u16], number: usize) -> u16
     ensures { result ≡ amount amounts.now number }
 {

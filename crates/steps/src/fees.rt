@@ -10,7 +10,8 @@ use costs::{Bikes, Cents, CentsThenBikes, Cost, Pair};
 use plans::Direction;
 
 // What a step over a leg costs, by its direction, the leg and what it carries.
-// No part of it is further from zero than a charge can be.
+// No part of it is further from zero than a charge can be. A trait and no closure: what it promises cites a ghost member, which
+// a closure has not.
 pub trait Fees<C: Cost> {
     ghost cost: { Self → Direction → Load → C };
 

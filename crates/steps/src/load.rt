@@ -9,7 +9,8 @@ use network::Network;
 use plans::Direction;
 use records::Leg;
 
-// A leg with its number, and the bikes that it carries under a plan.
+// A leg with its number, and the bikes that it carries under a plan. A direction is handed in with it: one load serves both steps over
+// its leg.
 #[derive(Clone, Copy, PartialEq, Eq, Debug)]
 pub struct Load {
     pub number: usize,
@@ -21,9 +22,12 @@ pub struct Load {
 pub fn joined_leg<N: Network>(net: &N, number: usize) -> Option<Leg>
     ensures { MatchOption result (Joined (N.Network.meaning net.now) number → ⊥) (λ leg. Joined (N.Network.meaning net.now) number × (leg_at (N.Network.meaning net.now) number ≡ leg)) }
 {
+    let Some(leg) = net.leg(number) else {
+        return None;
+    };
     let stations = net.stations();
-    net.leg(number).filter(|leg| usize::from(leg.start) < stations
-        && usize::from(leg.end) < stations)
+    let is_joined = usize::from(leg.start) < stations && usize::from(leg.end) < stations;
+    is_joined.then_some(leg)
 }
 
 impl Load {
@@ -42,14 +46,20 @@ impl Load {
     pub fn of<N: Network>(net: &N, plan: &[u16], number: usize) -> Option<Load>
         ensures { MatchOption result (length (N.Network.meaning net.now).legs ≤ number) (λ load. (number < length (N.Network.meaning net.now).legs) × (load ≡ load_of (N.Network.meaning net.now) plan.now number)) }
     {
-        net.leg(number).map(|leg| Load::new(number, leg, plan))
+        let Some(leg) = net.leg(number) else {
+            return None;
+        };
+        Some(Load::new(number, leg, plan))
     }
 
     // The same, if both ends of the leg are stations.
     pub fn joined<N: Network>(net: &N, plan: &[u16], number: usize) -> Option<Load>
         ensures { MatchOption result (Joined (N.Network.meaning net.now) number → ⊥) (λ load. Joined (N.Network.meaning net.now) number × (load ≡ load_of (N.Network.meaning net.now) plan.now number)) }
     {
-        joined_leg(net, number).map(|leg| Load::new(number, leg, plan))
+        let Some(joined) = joined_leg(net, number) else {
+            return None;
+        };
+        Some(Load::new(number, joined, plan))
     }
 
     // The station where a step begins.

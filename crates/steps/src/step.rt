@@ -12,7 +12,7 @@ pub struct Step {
     pub leg: usize,
 }
 
-// `forth over LEG` or `back over LEG`
+// `forth over LEG` or `back over LEG`; a direction is never printed alone, so its words stand here
 impl fmt::Display for Step {
     ghost output = { λ step. Some (step_text step) };
 

@@ -1,8 +1,9 @@
 -- The theorems, of any ordered group G, or of integers alone. Walks are over the steps of a list, from the stations
--- that pass a test; the proofs are of any steps and starts.
---   Exchange           sums over stations are sums over legs
+-- that pass a test; the proofs are of any steps and starts. Legs join stations below n, and fees are convex, where a
+-- statement has these as premises.
+--   Exchange           sums over stations are sums over legs whose ends are stations
 --   LeastAtOneLeg      a convex leg at an amount that no step undercuts
---   UndercutByNoStep   weak duality: no residual step undercuts some potential, so no plan is cheaper
+--   UndercutByNoStep   weak duality: fees are convex and no residual step undercuts some potential, so no plan is cheaper
 --   CutHolds           a set of stations that owes more than its legs outwards can carry: no plan
 --   FullCut            a set that no residual step leaves sends out what its legs outwards can carry
 --   RoundTripsRemoved  a walk without its round trips
@@ -15,7 +16,7 @@
 --   RoundsReach        what k rounds of relaxing reach
 --   RoundsShowTrip     a total below what n - 1 rounds reach
 --   PushAlongTrail     bikes sent along a trail
---   RoundTripIsTrail   a round trip below zero passes different legs
+--   RoundTripIsTrail   a round trip below zero passes different legs, where fees are convex
 use Rattle.std.specs.Prelude.{◌≡◌, ℕ, suc, ◌<◌, ◌≤◌, Bool, ◌⊎◌, List, length, ℤ, pos, ◌-ℤ◌, ◌<ℤ◌, Option, slice_index, slice_index_or}
 use Rattle.std.specs.List.{AllByRecursion}
 use Rattle.theory.specs.Groups.{OrderedGroup}
@@ -31,7 +32,7 @@ Exchange {A} G = (at : Arc A → ℕ) (n : ℕ) (π : ℕ → A) (ls : List (Arc
 abbrev pub LeastAtOneLeg : {A : Type 0} → OrderedGroup A → Type 0
 LeastAtOneLeg {A} G = (f : ℕ → A) (p : A) (most x : ℕ) → Convex G f → Tight G f p most x → (y : ℕ) → y ≤ most → G.le (G.add (f x) (times G y p)) (G.add (f y) (times G x p))
 
--- a feasible plan that no residual step undercuts costs no more than any feasible plan
+-- where legs join stations and fees are convex, a feasible plan that no residual step undercuts costs no more than any feasible plan
 abbrev pub UndercutByNoStep : {A : Type 0} → OrderedGroup A → Type 0
 UndercutByNoStep {A} G = (n : ℕ) (b : ℕ → ℤ) (π : ℕ → A) (ls : List (Arc A)) (xs ys : List ℕ) → AllByRecursion (λ l. (l.from < n) × (l.to < n)) ls → AllByRecursion (λ l. Convex G l.fee) ls → Feasible n b ls xs → Feasible n b ls ys → Uncut G π ls xs → G.le (fees G ls xs) (fees G ls ys)
 
@@ -84,6 +85,6 @@ RoundsShowTrip {A} G =
 abbrev pub PushAlongTrail : {A : Type 0} → OrderedGroup A → Type 0
 PushAlongTrail {A} G = (d : Arc A) (ls : List (Arc A)) (xs : List ℕ) → length xs ≡ length ls → ((k : ℕ) → k < length ls → slice_index xs k ≤ (slice_index_or ls k d).room) → (b o v : ℕ) (ks : List ℕ) (c : A) (ys : List ℕ) → Trail G d ls xs b o v ks c ys → Pushed G d ls xs b o v ks c ys
 
--- so one bike can be sent around it
+-- where fees are convex; so one bike can be sent around it
 abbrev pub RoundTripIsTrail : {A : Type 0} → OrderedGroup A → Type 0
 RoundTripIsTrail {A} G = (d : Arc A) (ls : List (Arc A)) (xs : List ℕ) → ((k : ℕ) → Convex G (slice_index_or ls k d).fee) → (trip : RoundTrip G (Residual G d ls xs)) → Around G d ls xs trip.at trip.total

@@ -14,7 +14,7 @@ pub trait Grouped {
     ghost worth: { Self → Member };
 }
 
-// Sums over the stations are sums over the legs.
+// Sums over the stations are sums over the legs, whose ends are stations.
 pub fn sums_over_stations_are_sums_over_legs<K: Grouped>()
     ensures { Exchange K.Grouped.group }
 {}
@@ -24,7 +24,8 @@ pub fn convex_leg_is_least_where_tight<K: Grouped>()
     ensures { LeastAtOneLeg K.Grouped.group }
 {}
 
-// Weak duality: a feasible plan is cheapest if no residual step undercuts some potential.
+// Weak duality: where legs join stations and fees are convex, a feasible plan is cheapest if no residual step undercuts some
+// potential.
 pub fn undercut_by_no_step_is_cheapest<K: Grouped>()
     ensures { UndercutByNoStep K.Grouped.group }
 {}
@@ -74,17 +75,17 @@ pub fn push_moves_only_the_ends<K: Grouped>()
     ensures { PushAlongTrail K.Grouped.group }
 {}
 
-// A round trip below zero passes different legs, so one bike can be sent around it.
+// Where fees are convex, a round trip below zero passes different legs, so one bike can be sent around it.
 pub fn round_trip_below_zero_is_a_trail<K: Grouped>()
     ensures { RoundTripIsTrail K.Grouped.group }
 {}
 
-// A set of stations that owes more than its legs outwards can carry admits no plan.
+// Where legs join stations, a set of stations that owes more than its legs outwards can carry admits no plan.
 pub fn overloaded_cut_admits_no_plan<K: Grouped>()
     ensures { CutHolds K.Grouped.Member }
 {}
 
-// A set of stations that no residual step leaves sends out, net, all that its legs outwards can carry.
+// Where legs join stations, a set of stations that no residual step leaves sends out, net, all that its legs outwards can carry.
 pub fn uncrossed_cut_sends_all_it_can<K: Grouped>()
     ensures { FullCut K.Grouped.Member }
 {}

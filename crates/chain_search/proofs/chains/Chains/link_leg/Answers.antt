@@ -4,7 +4,7 @@ use Rattle.chain_search.proofs.chains.Chains.link_leg.Goals as goal
 pub returns-in_default-clause-chained : goal.returns-in_default-clause-chained
 returns-in_default-clause-chained g c = chained_skip (g.N.Network.meaning c.args.net.now) c.args.number c.args.self.now.heads.now c.args.self.now.nexts.now c.in_default.ensures
 
-pub returns-in-Some-clause-chained : goal.returns-in-Some-clause-chained
-returns-in-Some-clause-chained g c =
+pub returns-clause-chained : goal.returns-clause-chained
+returns-clause-chained g c =
     chained_put (g.N.Network.meaning c.args.net.now) c.args.number c.in-Some.leg c.args.self.now.heads.now c.args.self.now.nexts.now c.put.new.self.heads.now c.put.new.self.nexts.now
     c.in-Some.ensures.0 c.in-Some.ensures.1 c.requires.1.0 c.requires.1.1 c.put.ensures.heads c.put.ensures.next

@@ -1,6 +1,5 @@
 use Rattle.std.proofs.Common.{◌≡◌, length, subst, arith}
-use Rattle.search.specs.Sweeps.{Passes}
-use Rattle.search.proofs.Sweeping.{passes_more, passes_all}
+use Rattle.search.proofs.Sweeping.{Passes, passes_more, passes_all}
 use Rattle.search.proofs.legs.ByLegsSweep.sweep.Goals as goal
 
 pub loop-number-preserved : goal.loop-number-preserved

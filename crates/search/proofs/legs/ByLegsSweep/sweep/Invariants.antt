@@ -1,5 +1,5 @@
 use Rattle.std.proofs.Common.{◌≡◌, length}
-use Rattle.search.specs.Sweeps.{Passes}
+use Rattle.search.proofs.Sweeping.{Passes}
 use Rattle.search.proofs.legs.ByLegsSweep.sweep.Given as goal
 
 -- the steps over the legs so far are relaxed
