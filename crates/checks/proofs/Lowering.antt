@@ -1,7 +1,8 @@
 -- The lowest number that passes a test.
 use Rattle.std.proofs.Common.{◌≡◌, ℕ, zero, suc, ◌<◌, ◌≤◌, Bool, true, false, cond, Some, None, Option, sym, refl, ap, ◌∙◌, arith, MatchOption}
 use native.Mathlib.Decide.{ℕ_discrete}
-use Rattle.checks.specs.Checks.{or_else, lowest}
+use Rattle.std.specs.Option.{option_or}
+use Rattle.checks.specs.Checks.{lowest}
 use Rattle.checks.specs.Theorems.{NoneBelow, Lowest, LowestSays}
 
 -- ---- one number more
@@ -13,7 +14,7 @@ next_none passes m false e n = λ k h p.
       | no d ↦ n k (omega arith) p
     ]
 
-next : (passes : ℕ → Bool) (m : ℕ) (o : Option ℕ) → MatchOption o (NoneBelow passes m) (Lowest passes m) → MatchOption (or_else o (cond (passes m) (Some m) None)) (NoneBelow passes (suc m)) (Lowest passes (suc m))
+next : (passes : ℕ → Bool) (m : ℕ) (o : Option ℕ) → MatchOption o (NoneBelow passes m) (Lowest passes m) → MatchOption (option_or o (cond (passes m) (Some m) None)) (NoneBelow passes (suc m)) (Lowest passes (suc m))
 next passes m None h = next_none passes m (passes m) refl h
 next passes m (Some k) h = record { below = omega (arith, h.below); here = h.here; none_lower = h.none_lower }
 

@@ -1,7 +1,7 @@
 -- What is settled once the checks have passed.
 use Rattle.std.proofs.Common.{◌≡◌, ℕ, ◌<◌, ◌≤◌, Bool, true, false, cond, not, ◌||◌, length, ℤ, pos, negsuc, ◌≤ℤ◌, Some, None, Option, sym, refl, ap, ◌∙◌, arith, eqb, of_z, w64, MatchOption}
 use lib.Signed.{lt_z, mag}
-use Rattle.std.specs.Option.{option_map}
+use Rattle.std.specs.Option.{option_map, option_or}
 use Rattle.std.specs.List.{slice_get}
 use Rattle.std.proofs.lemmas.Int.{ints}
 use Rattle.std.proofs.lemmas.Bool.{ne_eqb, false_from_ne_true}
@@ -14,7 +14,7 @@ use Rattle.records.specs.declared.leg.Leg.{Leg}
 use Rattle.network.specs.Nets.{Net, total}
 use Rattle.plans.specs.Plans.{stations, leg_at, balance_at}
 use Rattle.certificates.specs.Totals.{total_below}
-use Rattle.checks.specs.Checks.{or_else, lowest, too_short, senseless_leg, senseless, too_large, zero_sum, uneven, checked}
+use Rattle.checks.specs.Checks.{lowest, too_short, senseless_leg, senseless, too_large, zero_sum, uneven, checked}
 use Rattle.checks.specs.Theorems.{Passed, PassedSay}
 use Rattle.checks.specs.declared.lengths.Lengths.{Lengths}
 use Rattle.checks.proofs.Lowering.{none_below, of_none}
@@ -45,7 +45,7 @@ past_test : {X : Type 0} (b : Bool) (x : X) (o : Option X) → cond b (Some x) o
 past_test true x o e = absurd (let z : ◌≡◌ {A = ℕ} 0 1 = cc in omega arith)
 past_test false x o e = (refl, e)
 
-past_place : {X : Type 0} (f : ℕ → X) (p : Option ℕ) (o : Option X) → or_else (option_map f p) o ≡ None → (p ≡ None) × (o ≡ None)
+past_place : {X : Type 0} (f : ℕ → X) (p : Option ℕ) (o : Option X) → option_or (option_map f p) o ≡ None → (p ≡ None) × (o ≡ None)
 past_place f (Some k) o e = absurd (let z : ◌≡◌ {A = ℕ} 0 1 = cc in omega arith)
 past_place f None o e = (refl, e)
 

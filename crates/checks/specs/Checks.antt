@@ -1,6 +1,5 @@
 -- What a planning refuses before it searches.
 --   lowest          the lowest number below m that passes a test
---   or_else         the first answer, or the second where the first is none
 --   too_short       whether a slice or a working table is too short
 --   senseless_leg   whether a leg makes no sense
 --   senseless       the same by the leg's number
@@ -10,7 +9,7 @@
 --   checked         the refusal that a planning deserves before it searches, or none
 --   Checks          what the call answers
 use Rattle.std.specs.Prelude.{◌≡◌, ℕ, zero, suc, Bool, false, cond, not, ◌||◌, length, ℤ, pos, negsuc, Some, None, Ok, Err, Option, Result, ◌==◌, int_lt, nat_le, nat_lt}
-use Rattle.std.specs.Option.{option_map}
+use Rattle.std.specs.Option.{option_map, option_or}
 use Rattle.records.specs.declared.leg.Leg.{Leg}
 use Rattle.records.specs.declared.refusal.Refusal.{Refusal}
 use Rattle.records.specs.declared.refusal.Refusal.TheVariants.{SliceTooShort, SenselessLeg, BalanceTooLarge, UnevenBalances}
@@ -19,14 +18,10 @@ use Rattle.plans.specs.Plans.{stations, leg_at, balance_at}
 use Rattle.certificates.specs.Totals.{total_below}
 use Rattle.checks.specs.declared.lengths.Lengths.{Lengths}
 
-abbrev pub or_else : {X : Type 0} → Option X → Option X → Option X
-or_else (Some x) o = Some x
-or_else None o = o
-
 -- one below m, else m itself if it passes
 abbrev pub lowest : (ℕ → Bool) → ℕ → Option ℕ
 lowest passes zero = None
-lowest passes (suc m) = or_else (lowest passes m) (cond (passes m) (Some m) None)
+lowest passes (suc m) = option_or (lowest passes m) (cond (passes m) (Some m) None)
 
 -- the slices need an entry for each station, the working tables one for each station and each leg that a network can have
 abbrev pub too_short : Net → Lengths → Bool
@@ -54,8 +49,8 @@ uneven net = not (zero_sum (total_below (stations net) (balance_at net)))
 abbrev pub checked : Net → Lengths → Option Refusal
 checked net lengths =
     cond (too_short net lengths) (Some SliceTooShort)
-    (or_else (option_map SenselessLeg (lowest (senseless net) (length net.legs)))
-    (or_else (option_map BalanceTooLarge (lowest (too_large net) (stations net)))
+    (option_or (option_map SenselessLeg (lowest (senseless net) (length net.legs)))
+    (option_or (option_map BalanceTooLarge (lowest (too_large net) (stations net)))
     (cond (uneven net) (Some UnevenBalances) None)))
 
 -- accepted exactly when no refusal is deserved

@@ -33,8 +33,10 @@ fn makes_no_sense(stations: usize, leg: Leg) -> bool
 fn is_senseless<N: Network>(net: &N, number: usize) -> bool
     ensures { result ≡ senseless (N.Network.meaning net.now) number }
 {
-    net.leg(number)
-        .is_none_or(|leg| makes_no_sense(net.stations(), leg))
+    let Some(leg) = net.leg(number) else {
+        return true;
+    };
+    makes_no_sense(net.stations(), leg)
 }
 
 // The lowest leg that makes no sense.

@@ -39,14 +39,15 @@ impl Desk {
         })
     }
 
-    // The amounts, the first of which are the plan after an accepted planning.
+    // What the table of amounts holds. That it is what a planning left in it is not promised: of what is lent in parts no value is
+    // known afterwards.
     pub fn amounts(&self) -> &[u16]
         ensures { result.now ≡ self.now.amounts.items }
     {
         self.amounts.as_slice()
     }
 
-    // Lends the tables. What earlier plannings left in them stays there.
+    // Lends the tables, as they are.
     pub fn lend(&mut self) -> Tables<'_>
         ensures { Lent self.old result }
     {

@@ -56,10 +56,10 @@ finished net standing draft e t u =
 
 -- of the best plan, prices are written
 module _ (net : Net) (standing plan amounts : List ℕ) (e : plan ≡ the_plan net amounts) (b : CheapestThenNearest net standing (the_plan net amounts)) (o : Outcome) (ps ps' : List ℤ) (w : Written net plan o ps ps') where
-  pub accepted : (c d : ℕ) (cut : List ℕ) → o ≡ Settled → c ≡ cents net plan → d ≡ difference net standing plan → Accepted net standing (the_plan net amounts) c d ps ps' cut cut
-  accepted c d cut q x y =
+  pub accepted : (c d : ℕ) (cut : List ℕ) → o ≡ Settled → c ≡ cents net plan → d ≡ difference net standing plan → length ps' ≡ length ps → Accepted net standing (the_plan net amounts) c d ps ps' cut cut
+  accepted c d cut q x y k =
       let w' : Written net (the_plan net amounts) Settled ps ps' = rw (e, q) at w in
-      record { best = b; costs = rw e at x; differs = rw e at y; priced = w'.1; prices_beyond = w'.2; cut_stays = refl }
+      record { best = b; costs = rw e at x; differs = rw e at y; priced = w'.1; prices_beyond = w'.2; prices_as_long = λ h. k; cut_stays = refl }
 
   pub never_trip : o ≡ RoundTrip → ⊥
   never_trip q = let w' : Written net (the_plan net amounts) RoundTrip ps ps' = rw (e, q) at w in no_cents_trip net standing (the_plan net amounts) b w'.0
@@ -75,7 +75,7 @@ impossible net count ls prices cut cut' e h l c w =
     let n = stations net in
     let w' : WritesCut n (take n ls) count cut cut' = rw (length-take-le n ls l) at w in
     let v : Cut net (take count cut') = rw (w'.written, reached_taken n n ls (omega arith)) c in
-    record { none_obeys = Cutting.excludes net (take count cut') e v; room = omega (arith, w'.few, w'.long, h); is_cut = v; cut_beyond = w'.beyond; prices_stay = refl }
+    record { none_obeys = Cutting.excludes net (take count cut') e v; room = omega (arith, w'.few, w'.long, h); is_cut = v; cut_beyond = w'.beyond; cut_as_long = λ m. w'.long; prices_stay = refl }
 
 -- ---- checks passed
 -- what the checks settle

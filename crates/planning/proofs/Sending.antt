@@ -5,15 +5,14 @@ use borrow.Author.Differences.{ints}
 use Rattle.std.proofs.lemmas.List.{get_or-take}
 use Rattle.network.specs.Nets.{Net}
 use Rattle.plans.specs.Plans.{stations, amount}
-use Rattle.plans.specs.Residuals.{Certifies}
 use Rattle.plans.specs.Cuts.{left_over}
 use Rattle.certificates.specs.Totals.{all_over}
 use Rattle.draft.specs.declared.Draft.{Draft}
 use Rattle.search.specs.Searches.{From}
 use Rattle.search.specs.declared.label.Arrival.{Arrival}
 use Rattle.search.specs.declared.label.Label.{Label}
-use Rattle.pushing.specs.Sends.{Both, Known, SettledFor, Tracks, Agrees, Ready, Sends}
-use Rattle.planning.specs.States.{the_plan, SentAll, SentSome, SendsAll, SendsSome}
+use Rattle.pushing.specs.Sends.{Both, Known, SettledFor, Tracks, Ready, Sends}
+use Rattle.planning.specs.States.{the_plan, Lessened, SentAll, SentSome, SendsAll, SendsSome}
 
 -- the amounts of the legs are the plan's
 of_legs : (net : Net) (amounts : List ℕ) (k : ℕ) → k < length net.legs → amount (the_plan net amounts) k ≡ amount amounts k
@@ -30,11 +29,21 @@ module _ (net : Net) (standing : List ℕ) (ls : List (Label Both)) (over : ℕ)
 
   -- after the stations below i
   pub record Sending (i r : ℕ) (now : Draft) : Type 0 where
-    pub tracks : Tracks net now.amounts.now now.left.now
-    pub over_all : r ≡ all_over net (the_plan net now.amounts.now)
-    pub fewer : r ≤ over
-    pub certified : (π : ℕ → ℤ × ℤ) → Agrees net ls π → Certifies net standing old π → Certifies net standing (the_plan net now.amounts.now) π
+    pub lessened : Lessened net standing ls over r old now
     pub still : r ≡ over → (now.amounts.now ≡ first.amounts.now) × ((v : ℕ) (x : Arrival Both) → v < i → Known ls v x → pos 0 ≤ℤ left_over net old v)
+
+  -- one sending more; where as many bikes are over as at first, it moved none, and none moved before
+  module _ (f : ℕ → Bool) (z : SettledFor net standing old f ls) (i r b : ℕ) (now after : Draft) (s : Sends net standing ls i b now after) (g : Lessened net standing ls over r old now) where
+    lower : all_over net (the_plan net after.amounts.now) + b ≡ r
+    lower = (s.sent old f z g.tracks).lower ∙ sym g.over_all
+
+    lessened_more : Lessened net standing ls over (r - b) old after
+    lessened_more =
+        let t = s.sent old f z g.tracks in
+        record { tracks = t.tracks; over_all = omega (arith, lower); fewer = omega (arith, g.fewer); certified = λ π a c. t.certified π a (g.certified π a c) }
+
+    none_moved : r - b ≡ over → (b ≡ 0) × (r ≡ over)
+    none_moved q = (omega (arith, lower, g.fewer, q), omega (arith, lower, g.fewer, q))
 
   module _ (f : ℕ → Bool) (z : SettledFor net standing old f ls) (starts : (v : ℕ) → From net f v → pos 0 <ℤ left_over net old v) where
     -- nothing moved, so a labelled station does not lack bikes
@@ -50,27 +59,21 @@ module _ (net : Net) (standing : List ℕ) (ls : List (Label Both)) (over : ℕ)
 
     sending_more : (i r b : ℕ) (now after : Draft) → i < stations net → Sends net standing ls i b now after → Sending i r now → Sending (i + 1) (r - b) after
     sending_more i r b now after h s g =
-        let t = s.sent old f z g.tracks in
-        let low : all_over net (the_plan net after.amounts.now) + b ≡ r = t.lower ∙ sym g.over_all in
         record {
-          tracks = t.tracks;
-          over_all = omega (arith, low);
-          fewer = omega (arith, low, g.fewer);
-          certified = λ π a c. t.certified π a (g.certified π a c);
+          lessened = lessened_more f z i r b now after s g.lessened;
           still = λ q.
-              let none : b ≡ 0 = omega (arith, low, g.fewer, q) in
-              let same : r ≡ over = omega (arith, low, g.fewer, q) in
-              let w = g.still same in (
-                (s.none none).0 ∙ w.0,
+              let n = none_moved f z i r b now after s g.lessened q in
+              let w = g.still n.1 in (
+                (s.none n.0).0 ∙ w.0,
                 λ v x k e. elim (ℕ_discrete v i) [
-                  | yes p ↦ let k' : Known ls i x = rw p at e in rw p (unmoved i b now after h w.0 g.tracks s none x k')
+                  | yes p ↦ let k' : Known ls i x = rw p at e in rw p (unmoved i b now after h w.0 g.lessened.tracks s n.0 x k')
                   | no p ↦ w.1 v x (omega arith) e
                 ],
               );
         }
 
   sending_all : (i r : ℕ) (now : Draft) → stations net ≤ i → Sending i r now → SentAll net standing ls over r first now
-  sending_all i r now h g = record { tracks = g.tracks; over_all = g.over_all; fewer = g.fewer; certified = g.certified; still = λ q. let w = g.still q in (w.0, λ v x k e. w.1 v x (omega arith) e) }
+  sending_all i r now h g = record { lessened = g.lessened; still = λ q. let w = g.still q in (w.0, λ v x k e. w.1 v x (omega arith) e) }
 
   -- after the stations below i, whatever the labels are settled for
   abbrev pub SendsBelow : ℕ → ℕ → Draft → Type 0
@@ -85,17 +88,12 @@ module _ (net : Net) (standing : List ℕ) (ls : List (Label Both)) (over : ℕ)
   -- ---- sendings to some stations
   some_sent : (f : ℕ → Bool) → SettledFor net standing old f ls → (i r b : ℕ) (now after : Draft) → Sends net standing ls i b now after → SentSome net standing ls over r first now → SentSome net standing ls over (r - b) first after
   some_sent f z i r b now after s g =
-      let t = s.sent old f z g.tracks in
-      let low : all_over net (the_plan net after.amounts.now) + b ≡ r = t.lower ∙ sym g.over_all in
       record {
-        tracks = t.tracks;
-        over_all = omega (arith, low);
-        fewer = omega (arith, low, g.fewer);
-        certified = λ π a c. t.certified π a (g.certified π a c);
+        lessened = lessened_more f z i r b now after s g.lessened;
         still = λ q.
-            let none : b ≡ 0 = omega (arith, low, g.fewer, q) in
-            let same : r ≡ over = omega (arith, low, g.fewer, q) in
-            ((s.none none).0 ∙ (g.still same).0, (s.none none).1 ∙ (g.still same).1);
+            let n = none_moved f z i r b now after s g.lessened q in
+            let w = g.still n.1 in
+            ((s.none n.0).0 ∙ w.0, (s.none n.0).1 ∙ w.1);
       }
 
   pub some_more : {i r b r' : ℕ} {now after : Draft} → r' ≡ r - b → SendsSome net standing ls over r first now → Sends net standing ls i b now after → SendsSome net standing ls over r' first after
@@ -103,12 +101,12 @@ module _ (net : Net) (standing : List ℕ) (ls : List (Label Both)) (over : ℕ)
 
   -- where bikes have moved, nothing is claimed of those that lack them
   pub some_all : {r : ℕ} {after : Draft} → r < over → SendsSome net standing ls over r first after → SendsAll net standing ls over r first after
-  some_all h a = λ f z s t o. let g = a f z t o in record { tracks = g.tracks; over_all = g.over_all; fewer = g.fewer; certified = g.certified; still = λ q. absurd (omega (arith, h, q)) }
+  some_all h a = λ f z s t o. let g = a f z t o in record { lessened = g.lessened; still = λ q. absurd (omega (arith, h, q)) }
 
   -- sendings that moved nothing, and then sendings to every station
   pub once_more : {less r : ℕ} {now after : Draft} → over ≤ less → SendsSome net standing ls over less first now → SendsAll net standing ls over r now after → SendsAll net standing ls over r first after
   once_more {less} {r} {now} {after} h a b = λ f z s t o.
       let g = a f z t o in
-      let q = (g.still (omega (arith, h, g.fewer))).0 in
-      let w = b f (rw q z) (λ v k. rw q (s v k)) g.tracks (rw q o) in
-      record { tracks = w.tracks; over_all = w.over_all; fewer = w.fewer; certified = rw q at w.certified; still = rw q at w.still }
+      let q = (g.still (omega (arith, h, g.lessened.fewer))).0 in
+      let w = b f (rw q z) (λ v k. rw q (s v k)) g.lessened.tracks (rw q o) in
+      record { lessened = rw q at w.lessened; still = rw q at w.still }

@@ -1,5 +1,5 @@
 -- The reached stations are a cut, where bikes are over and no reached station lacks them.
-use Rattle.std.proofs.Common.{◌≡◌, ℕ, zero, suc, ◌<◌, Bool, true, false, cond, eqb, ◌⊎◌, List, [], ◌∷◌, ◌++◌, pos, ◌≤ℤ◌, ◌<ℤ◌, Some, None, Option, refl, inl, inr, arith}
+use Rattle.std.proofs.Common.{◌≡◌, ℕ, zero, suc, ◌<◌, Bool, true, false, cond, eqb, ◌⊎◌, List, [], ◌∷◌, ◌++◌, pos, ◌≤ℤ◌, ◌<ℤ◌, Some, None, Option, is_some, refl, inl, inr, arith}
 use native.Mathlib.Decide.{ℕ_discrete}
 use Rattle.std.specs.List.{AllByRecursion}
 use Rattle.std.proofs.ByRecursion.{All-append}
@@ -20,7 +20,7 @@ use Rattle.search.specs.Searches.{From, StepOf, OverOf, Settles, fee_worth}
 use Rattle.search.specs.declared.label.Label.{Label}
 use Rattle.search.proofs.Optional.{option_cases}
 use Rattle.search.proofs.Stepping.{ends}
-use Rattle.planning.specs.Reached.{is_there, reached, reached_below}
+use Rattle.planning.specs.Reached.{reached, reached_below}
 
 -- ---- lists by rising number
 distinct_more : (w : ℕ) (us : List ℕ) → Distinct us → AllByRecursion (λ u. u < w) us → Distinct (us ++ (w ∷ []))
@@ -78,30 +78,26 @@ module _ {C : Type 0} (ls : List (Label C)) where
         | no n ↦ among_before v (reached_below ls i) _ (reached_named i v (omega arith) r)
       ]
 
-pub there : {X : Type 0} (o : Option X) → is_there o ≡ true → (x : X) × (o ≡ Some x)
+pub there : {X : Type 0} (o : Option X) → is_some o ≡ true → (x : X) × (o ≡ Some x)
 there None h = absurd (both_ways false refl h)
 there (Some x) h = (x, refl)
 
 module _ {C : Type 0} (K : Kind C) (net : Net) (plan : List ℕ) (cost : Direction → Load → C) (f : ℕ → Bool) (ls : List (Label C))
     (z : Settles K (stations net) (From net f) (StepOf K net plan cost) (OverOf K net plan cost) ls) where
-  -- what the steps cost
-  abbrev paid_worth : Direction → ℕ → K.Member
-  paid_worth = paid (fee_worth K net plan cost) net plan
-
   -- where a walk comes to, there is a label
   walked : (v : ℕ) (us : List ℕ) (t : K.Member) → v < stations net → Walk K.group (From net f) (StepOf K net plan cost) v us t → reached ls v ≡ true
   walked v us t h w = elim (option_cases (label_at ls v).arrival) [ inl e ↦ absurd (z.unreached v h e us t w) | inr q ↦ rw q.1 refl ]
 
-  uncrossed : Uncrossed net plan paid_worth (reached_below ls (stations net))
+  uncrossed : Uncrossed net plan (paid (fee_worth K net plan cost) net plan) (reached_below ls (stations net))
   uncrossed u v c s h =
       let q = named_reached ls (stations net) u h in
       let x = there (label_at ls u).arrival q.1 in
-      let e = ends net plan paid_worth u v c s in
+      let e = ends net plan _ u v c s in
       reached_named ls (stations net) v e.1 (walked v _ _ e.1 (step (z.least u x.0 q.0 x.1).attained s))
 
   pub shows_cut : EndsBelow net → Fits net plan → ((v : ℕ) → v < stations net → reached ls v ≡ true → pos 0 ≤ℤ left_over net plan v) → (w : ℕ) → w < stations net → f w ≡ true → pos 0 <ℤ left_over net plan w
       → Cut net (reached_below ls (stations net))
   shows_cut e t h w k s p =
-      is_cut net plan paid_worth (reached_below ls (stations net)) e t (rising_distinct ls (stations net)) (below_rising ls (stations net)) uncrossed
+      is_cut net plan _ (reached_below ls (stations net)) e t (rising_distinct ls (stations net)) (below_rising ls (stations net)) uncrossed
       (λ v a. let q = named_reached ls (stations net) v a in h v q.0 q.1)
       w (reached_named ls (stations net) w k (walked w [] K.group.zero k (start (k, s)))) p

@@ -25,7 +25,7 @@ use Rattle.search.specs.declared.outcome.Outcome.TheVariants.{Settled, RoundTrip
 use Rattle.search.proofs.Optional.{option_cases}
 use Rattle.search.proofs.Stepping.{ends}
 use Rattle.draft.specs.declared.Draft.{Draft}
-use Rattle.pushing.specs.Sends.{Both, worth_of, SettledFor, Agrees}
+use Rattle.pushing.specs.Sends.{Both, SettledFor, Agrees}
 use Rattle.planning.specs.Reached.{reached, reached_below}
 use Rattle.planning.specs.States.{the_plan, Prepared, Underway, Marks, Marking, SendsAll, Turned}
 use Rattle.planning.specs.declared.tables.Tables.{Tables}
@@ -34,7 +34,7 @@ use Rattle.planning.proofs.Showing.{there, shows_cut}
 -- the total of an arrival, zero where there is none
 total_of : Option (Arrival Both) → ℤ × ℤ
 total_of None = (pos 0, pos 0)
-total_of (Some x) = worth_of x.total
+total_of (Some x) = both_kind.worth x.total
 
 -- where a sum is above zero, a part is
 some_part : (m : ℕ) (g : ℕ → ℕ) → 0 < sum_below m g → (w : ℕ) × (w < m) × (0 < g w)
@@ -114,8 +114,8 @@ module _ (net : Net) (standing : List ℕ) (draft : Draft) (o : ℕ) (u : Underw
         shows_cut both_kind net plan (fee_both standing) marked ls z e u.tracks.fits (λ v h t. let x = there (label_at ls v).arrival t in (s.still n).1 v x.0 h x.1) w.0 w.1
         (over_marked w.0 w.1 q) q
         in
-        answered (ltb r o) (λ h. (record { tracks = s.tracks; over_all = s.over_all; potential = a.0; certified = s.certified a.0 a.2 a.1 }, ltb-true r o h))
-        (λ h. cut (omega (arith, ltb-false r o h, s.fewer)))
+        answered (ltb r o) (λ h. (record { tracks = s.lessened.tracks; over_all = s.lessened.over_all; potential = a.0; certified = s.lessened.certified a.0 a.2 a.1 }, ltb-true r o h))
+        (λ h. cut (omega (arith, ltb-false r o h, s.lessened.fewer)))
       where
         answered : (b : Bool) → (b ≡ true → Turned net standing o (Some r) tables) → (b ≡ false → Turned net standing o None tables) → Turned net standing o (then_some b r) tables
         answered true fewer same = fewer refl

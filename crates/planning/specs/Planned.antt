@@ -1,7 +1,7 @@
 -- What a planning answers and leaves.
 --   Accepted     a planning that found the best plan
 --   Impossible   a planning that found a cut
---   Refused      a planning that is refused, by the refusal that it deserves before the search
+--   Refused      a planning that is refused: by the refusal that it deserves before the search, if any, else after it as impossible
 --   Planned      what a planning answers and leaves
 --   lengths_of   how long the slices and the tables are
 --   SameTables   all tables stay lent, and keep their lengths
@@ -23,21 +23,24 @@ use Rattle.planning.specs.States.{Underway}
 use Rattle.planning.specs.declared.tables.Tables.{Tables}
 
 -- the plan is the best one, c and d are its cents and its difference from the standing plan, the first n prices are those of
--- the stations under it, further prices and the cut stay
+-- the stations under it, further prices and the cut stay; a slice with n prices keeps its length
 pub record Accepted (net : Net) (standing plan : List ℕ) (c d : ℕ) (prices prices' : List ℤ) (cut cut' : List ℕ) : Type 0 where
   pub best : CheapestThenNearest net standing plan
   pub costs : c ≡ cents net plan
   pub differs : d ≡ difference net standing plan
   pub priced : Prices net plan prices'
   pub prices_beyond : drop (stations net) prices' ≡ drop (stations net) prices
+  pub prices_as_long : stations net ≤ length prices → length prices' ≡ length prices
   pub cut_stays : cut' ≡ cut
 
--- no plan obeys, the first `count` entries of the cut are a cut, further ones and the prices stay
+-- no plan obeys, the first `count` entries of the cut are a cut, further ones and the prices stay; a slice with as many
+-- entries keeps its length
 pub record Impossible (net : Net) (count : ℕ) (prices prices' : List ℤ) (cut cut' : List ℕ) : Type 0 where
   pub none_obeys : (plan : List ℕ) → Obeys net plan → ⊥
   pub room : count ≤ length cut'
   pub is_cut : Cut net (take count cut')
   pub cut_beyond : drop count cut' ≡ drop count cut
+  pub cut_as_long : count ≤ length cut → length cut' ≡ length cut
   pub prices_stay : prices' ≡ prices
 
 -- by what the checks before the search find

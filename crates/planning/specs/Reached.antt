@@ -1,18 +1,13 @@
 -- The stations that a search reached, as they are written into a cut.
---   is_there        whether there is an arrival
 --   reached         whether a station is labelled
 --   reached_below   the reached stations below a number, by rising number
 --   WritesCut       a cut after the reached stations were written into it
-use Rattle.std.specs.Prelude.{◌≡◌, ℕ, zero, suc, ◌≤◌, Bool, true, false, cond, List, [], ◌∷◌, ◌++◌, length, take, drop, Some, None, Option}
+use Rattle.std.specs.Prelude.{◌≡◌, ℕ, zero, suc, ◌≤◌, Bool, cond, List, [], ◌∷◌, ◌++◌, length, take, drop, is_some}
 use Rattle.search.specs.Labels.{label_at}
 use Rattle.search.specs.declared.label.Label.{Label}
 
-abbrev pub is_there : {X : Type 0} → Option X → Bool
-is_there None = false
-is_there (Some x) = true
-
 abbrev pub reached : {C : Type 0} → List (Label C) → ℕ → Bool
-reached ls v = is_there (label_at ls v).arrival
+reached ls v = is_some (label_at ls v).arrival
 
 abbrev pub reached_below : {C : Type 0} → List (Label C) → ℕ → List ℕ
 reached_below ls zero = []

@@ -1,8 +1,8 @@
 -- A planning under way.
---   the_plan    the amounts of the legs, from a table that may be longer
 --   Underway    a draft whose plan fits and is certified, with what it leaves over
 --   Marks       marks on the stations that have bikes over
 --   Marking     such marks, as they are written
+--   Lessened    what any sendings do to a plan: no more bikes are over, and no certificate is lost
 --   SentAll     what sending to every station in turn does
 --   SentSome    what sending to some stations does
 --   SendsAll    the same as SentAll, whatever plan the labels are settled for
@@ -19,12 +19,10 @@ use Rattle.draft.specs.declared.Draft.{Draft}
 use Rattle.search.specs.Searches.{From}
 use Rattle.search.specs.declared.label.Arrival.{Arrival}
 use Rattle.search.specs.declared.label.Label.{Label}
-use Rattle.pushing.specs.Sends.{Both, Known, SettledFor, Tracks, Agrees, planned}
+pub use Rattle.pushing.specs.Sends.{the_plan}
+use Rattle.pushing.specs.Sends.{Both, Known, SettledFor, Tracks, Agrees}
 use Rattle.planning.specs.Reached.{reached_below}
 use Rattle.planning.specs.declared.tables.Tables.{Tables}
-
-abbrev pub the_plan : Net → List ℕ → List ℕ
-the_plan = planned
 
 -- some potential shows that no plan with as much left over at each station is better; `over` bikes are over in all
 pub record Underway (net : Net) (standing : List ℕ) (draft : Draft) (over : ℕ) : Type 0 where
@@ -37,20 +35,21 @@ pub record Underway (net : Net) (standing : List ℕ) (draft : Draft) (over : �
 abbrev pub Marks : ℕ → List ℤ → List Bool → Type 0
 Marks n left marks = (v : ℕ) → v < n → slice_index_or marks v false ≡ int_lt (pos 0) (slice_index_or left v (pos 0))
 
--- from a plan that the labels are settled for: if nothing moves, no labelled station lacks bikes
-pub record SentAll (net : Net) (standing : List ℕ) (ls : List (Label Both)) (over r : ℕ) (before after : Draft) : Type 0 where
+-- from `over` to `r` bikes that are over in all
+pub record Lessened (net : Net) (standing : List ℕ) (ls : List (Label Both)) (over r : ℕ) (plan : List ℕ) (after : Draft) : Type 0 where
   pub tracks : Tracks net after.amounts.now after.left.now
   pub over_all : r ≡ all_over net (the_plan net after.amounts.now)
   pub fewer : r ≤ over
-  pub certified : (π : ℕ → ℤ × ℤ) → Agrees net ls π → Certifies net standing (the_plan net before.amounts.now) π → Certifies net standing (the_plan net after.amounts.now) π
+  pub certified : (π : ℕ → ℤ × ℤ) → Agrees net ls π → Certifies net standing plan π → Certifies net standing (the_plan net after.amounts.now) π
+
+-- from a plan that the labels are settled for: if nothing moves, no labelled station lacks bikes
+pub record SentAll (net : Net) (standing : List ℕ) (ls : List (Label Both)) (over r : ℕ) (before after : Draft) : Type 0 where
+  pub lessened : Lessened net standing ls over r (the_plan net before.amounts.now) after
   pub still : r ≡ over → (after.amounts.now ≡ before.amounts.now) × ((v : ℕ) (x : Arrival Both) → v < stations net → Known ls v x → pos 0 ≤ℤ left_over net (the_plan net before.amounts.now) v)
 
 -- the same of sendings to some stations: if nothing moves, the draft is as it was
 pub record SentSome (net : Net) (standing : List ℕ) (ls : List (Label Both)) (over r : ℕ) (before after : Draft) : Type 0 where
-  pub tracks : Tracks net after.amounts.now after.left.now
-  pub over_all : r ≡ all_over net (the_plan net after.amounts.now)
-  pub fewer : r ≤ over
-  pub certified : (π : ℕ → ℤ × ℤ) → Agrees net ls π → Certifies net standing (the_plan net before.amounts.now) π → Certifies net standing (the_plan net after.amounts.now) π
+  pub lessened : Lessened net standing ls over r (the_plan net before.amounts.now) after
   pub still : r ≡ over → (after.amounts.now ≡ before.amounts.now) × (after.left.now ≡ before.left.now)
 
 -- fewer bikes are over, or nothing has moved and that shows a cut

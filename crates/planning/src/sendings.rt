@@ -1,4 +1,5 @@
-// Sendings along the routes that a search has found, to those stations that lack bikes.
+// Sendings along the routes that a search has found, to those stations that lack bikes. What they work in comes as parts of the tables:
+// `Routes` holds the labels while marks and draft are written.
 ghost use Rattle.draft.specs.Drafts.{SameDraft};
 ghost use Rattle.planning.specs.States.{SendsAll, SendsSome};
 
@@ -22,7 +23,7 @@ fn send_all<N: Network>(routes: &Routes<'_, N>, mut over: u64, draft: &mut Draft
     over
 }
 
-// A station that lacks bikes, and the total of its label.
+// A station that lacks bikes, and the total of its label. Not ordered: of two totals only the cost says which is lower.
 #[derive(Clone, Copy)]
 struct Lacking {
     station: usize,
@@ -57,7 +58,8 @@ fn nearest(labels: &[Label<CentsThenBikes>], draft: &Draft<'_>, marks: &[bool]) 
         .map(|lacking| lacking.station)
 }
 
-// Sends bikes to the stations that lack them, those with the lowest labels first, and says how many are over then.
+// Sends bikes to the stations that lack them, those with the lowest labels first, and says how many are over then. No more turns
+// than stations are needed, since each marks one.
 fn send_nearest<N: Network>(
     routes: &Routes<'_, N>,
     mut over: u64,
@@ -80,7 +82,8 @@ fn send_nearest<N: Network>(
 }
 
 impl<'n, 's, N: Network> Planning<'n, 's, N> {
-    // Sends bikes to the nearest first; where that moves none, asks every station once more, so that none is left out.
+    // Sends bikes to the nearest first; where that moves none, asks every station once more, so that none is left out. Says how many
+    // bikes are over then: as many as before where none moved.
     pub(crate) fn send_round(
         &self,
         over: u64,

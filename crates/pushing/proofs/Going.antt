@@ -15,9 +15,9 @@ use Rattle.certificates.proofs.Moved.{up_to_there}
 use Rattle.steps.specs.declared.step.Step.{Step}
 use Rattle.search.specs.declared.label.Arrival.{Arrival}
 use Rattle.search.specs.declared.label.Label.{Label}
-use Rattle.pushing.specs.Sends.{Both, Known, SettledFor, planned, Agrees}
-use Rattle.pushing.specs.Routes.{Leads, room_along, toll, shifted_by, Link, Route, begins, goes, pushed, Steps, last_of, StepsInto, Along}
-use Rattle.pushing.proofs.Routing.{from_below, ordered, Ordered, route_below, step_sent, step_kept, rest_at}
+use Rattle.pushing.specs.Sends.{Both, Known, SettledFor, the_plan, Agrees}
+use Rattle.pushing.specs.Routes.{Leads, room_along, toll, Link, Route, begins, goes, pushed, Steps, last_of, StepsInto, Along}
+use Rattle.pushing.proofs.Routing.{shifted_by, from_below, ordered, Ordered, route_below, step_sent, step_kept, rest_at}
 
 -- ---- one step in a table
 kept_over : (net : Net) (b : ℕ) (s : Step) (r : Option ℕ) (plan after : List ℕ) → Steps net b s r plan after → (length after ≡ length plan) × (drop (length net.legs) after ≡ drop (length net.legs) plan)
@@ -34,19 +34,19 @@ same_amount Forth l s x y b e t = omega (arith, e, t.0)
 same_amount Back l s x y b e t = ap (λ z. z - b) (sym e)
 
 -- the plan in the table is the one after the step
-shown_over : (net : Net) (standing : List ℕ) (b : ℕ) (s : Step) (u v : ℕ) (r : Option ℕ) (plan after : List ℕ) → Fits net (planned net plan) → Leads net s u v → b ≤ room_along net standing (planned net plan) s → Steps net b s r plan after
-    → (r ≡ Some u) × (planned net after ≡ shifted_by s b (planned net plan))
+shown_over : (net : Net) (standing : List ℕ) (b : ℕ) (s : Step) (u v : ℕ) (r : Option ℕ) (plan after : List ℕ) → Fits net (the_plan net plan) → Leads net s u v → b ≤ room_along net standing (the_plan net plan) s → Steps net b s r plan after
+    → (r ≡ Some u) × (the_plan net after ≡ shifted_by s b (the_plan net plan))
 shown_over net standing b s u v r plan after f p h (inr q) = absurd (omega (arith, q.0, p.joined.there))
 shown_over net standing b s u v r plan after f p h (inl q) =
     let m = length net.legs in
     let k = s.leg in
-    let g : amount (planned net plan) k ≡ amount plan k = get_or-take m plan k 0 q.0 in
-    let t = ((rooms s.direction net standing (planned net plan) k f p.joined).1 b h).takes in
-    let e = same_amount s.direction (leg_at net k) (amount standing k) (amount (planned net plan) k) (amount plan k) b g t in
-    (q.1 ∙ ap Some p.begins, ap (take m) q.2 ∙ take-set-lt m plan k _ q.0 ∙ ap (set (planned net plan) k) e)
+    let g : amount (the_plan net plan) k ≡ amount plan k = get_or-take m plan k 0 q.0 in
+    let t = ((rooms s.direction net standing (the_plan net plan) k f p.joined).1 b h).takes in
+    let e = same_amount s.direction (leg_at net k) (amount standing k) (amount (the_plan net plan) k) (amount plan k) b g t in
+    (q.1 ∙ ap Some p.begins, ap (take m) q.2 ∙ take-set-lt m plan k _ q.0 ∙ ap (set (the_plan net plan) k) e)
 
-shown_into : (net : Net) (standing : List ℕ) (ls : List (Label Both)) (b u v : ℕ) (x : Arrival Both) (r : Option ℕ) (plan after : List ℕ) → Fits net (planned net plan) → Known ls v x → (l : Link net standing (planned net plan) ls b u v x) → StepsInto net ls v b r plan after
-    → (r ≡ Some u) × (planned net after ≡ shifted_by l.last b (planned net plan))
+shown_into : (net : Net) (standing : List ℕ) (ls : List (Label Both)) (b u v : ℕ) (x : Arrival Both) (r : Option ℕ) (plan after : List ℕ) → Fits net (the_plan net plan) → Known ls v x → (l : Link net standing (the_plan net plan) ls b u v x) → StepsInto net ls v b r plan after
+    → (r ≡ Some u) × (the_plan net after ≡ shifted_by l.last b (the_plan net plan))
 shown_into net standing ls b u v x r plan after f k l (inl q) =
     let same : q.0 ≡ l.last = same_Some _ _ (sym q.1 ∙ ap last_of k ∙ l.by) in
     shown_over net standing b l.last u v r plan after f l.leads l.room (subst (λ (s : Step). Steps net b s r plan after) same q.2)
@@ -68,32 +68,32 @@ pub record Middle (net : Net) (standing : List ℕ) (ls : List (Label Both)) (si
 pub record Going (net : Net) (ls : List (Label Both)) (b target i at : ℕ) (plan now : List ℕ) : Type 0 where
   pub long : length now ≡ length plan
   pub beyond : drop (length net.legs) now ≡ drop (length net.legs) plan
-  pub middle : (standing old : List ℕ) (f : ℕ → Bool) (s : ℕ) (z : SettledFor net standing old f ls) → Fits net (planned net plan) → Route net standing (planned net plan) ls b target s
-      → Middle net standing ls z.since b target s i at (planned net plan) (planned net now)
+  pub middle : (standing old : List ℕ) (f : ℕ → Bool) (s : ℕ) (z : SettledFor net standing old f ls) → Fits net (the_plan net plan) → Route net standing (the_plan net plan) ls b target s
+      → Middle net standing ls z.since b target s i at (the_plan net plan) (the_plan net now)
 
 -- one step more
 middle_more : {net : Net} {standing : List ℕ} {ls : List (Label Both)} {b at s : ℕ} (since : ℕ → ℕ) (target i u : ℕ) (plan : List ℕ) (now after : List ℕ) → Ordered net ls since
-    → Sent net plan (planned net now) b at target → since at + i ≤ since target → ((π : ℕ → ℤ × ℤ) → Agrees net ls π → Certifies net standing plan π → Certifies net standing (planned net now) π)
-    → Route net standing (planned net now) ls b at s → StepsInto net ls at b (Some u) now after → Middle net standing ls since b target s (i + 1) u plan (planned net after)
+    → Sent net plan (the_plan net now) b at target → since at + i ≤ since target → ((π : ℕ → ℤ × ℤ) → Agrees net ls π → Certifies net standing plan π → Certifies net standing (the_plan net now) π)
+    → Route net standing (the_plan net now) ls b at s → StepsInto net ls at b (Some u) now after → Middle net standing ls since b target s (i + 1) u plan (the_plan net after)
 middle_more {net} {standing} {ls} {b} since target i u plan now after o t h c (begins {v = at} x l k e) p = absurd (none-some u (sym (start_into net ls b at x (Some u) now after k e p).0))
 middle_more {net} {standing} {ls} {b} since target i u plan now after o t h c (goes {u = w} {v = at} {s = s} x l k link r) p =
     let q = shown_into net standing ls b w at x (Some u) now after t.fits k link p in
     let e : w ≡ u = sym (same_Some _ _ q.0) in
     let d = o.back_from w at x link.last l k link.by link.leads in
-    let m : Middle net standing ls since b target s (i + 1) w plan (shifted_by link.last b (planned net now)) =
+    let m : Middle net standing ls since b target s (i + 1) w plan (shifted_by link.last b (the_plan net now)) =
     record {
       route = rest_at since o link.last w at s link.leads d r;
-      sent = up_to_there net plan b w at target (planned net now) (shifted_by link.last b (planned net now)) t (step_sent net standing (planned net now) b t.fits link.last w at link.leads link.room);
+      sent = up_to_there net plan b w at target (the_plan net now) (shifted_by link.last b (the_plan net now)) t (step_sent net standing (the_plan net now) b t.fits link.last w at link.leads link.room);
       turns = omega (arith, d, h);
       kept = λ π a y.
           let f = from_below net link.last w at link.leads in
-          let tight = a at x l k ∙ link.tight ∙ ap (λ z. both_group.add z (toll net standing (planned net now) link.last)) (sym (a w link.before f link.known)) in
-          step_kept net standing (planned net now) b t.fits link.last w at link.leads link.room π tight (c π a y);
+          let tight = a at x l k ∙ link.tight ∙ ap (λ z. both_group.add z (toll net standing (the_plan net now) link.last)) (sym (a w link.before f link.known)) in
+          step_kept net standing (the_plan net now) b t.fits link.last w at link.leads link.room π tight (c π a y);
     } in
-    subst (λ y. Middle net standing ls since b target s (i + 1) u plan y) (sym q.1) (subst (λ y. Middle net standing ls since b target s (i + 1) y plan (shifted_by link.last b (planned net now))) e m)
+    subst (λ y. Middle net standing ls since b target s (i + 1) u plan y) (sym q.1) (subst (λ y. Middle net standing ls since b target s (i + 1) y plan (shifted_by link.last b (the_plan net now))) e m)
 
 -- the end
-middle_stop : {net : Net} {standing : List ℕ} {ls : List (Label Both)} {b at s : ℕ} (target : ℕ) (plan now after : List ℕ) → Sent net plan (planned net now) b at target → Route net standing (planned net now) ls b at s → StepsInto net ls at b None now after
+middle_stop : {net : Net} {standing : List ℕ} {ls : List (Label Both)} {b at s : ℕ} (target : ℕ) (plan now after : List ℕ) → Sent net plan (the_plan net now) b at target → Route net standing (the_plan net now) ls b at s → StepsInto net ls at b None now after
     → (at ≡ s) × (after ≡ now)
 middle_stop {net} {standing} {ls} {b} target plan now after t (begins {v = at} x l k e) p = (refl, (start_into net ls b at x None now after k e p).1)
 middle_stop {net} {standing} {ls} {b} target plan now after t (goes {u = w} {v = at} {s = s} x l k link r) p = absurd (none-some w (shown_into net standing ls b w at x None now after t.fits k link p).0)
@@ -105,7 +105,7 @@ module _ (net : Net) (ls : List (Label Both)) (b target : ℕ) (plan : List ℕ)
       record {
         long = k.0 ∙ g.long;
         beyond = k.1 ∙ g.beyond;
-        middle = λ standing old f s z fits r. let m = g.middle standing old f s z fits r in middle_more z.since target i u (planned net plan) now after (ordered net standing old f ls z) m.sent m.turns m.kept m.route p;
+        middle = λ standing old f s z fits r. let m = g.middle standing old f s z fits r in middle_more z.since target i u (the_plan net plan) now after (ordered net standing old f ls z) m.sent m.turns m.kept m.route p;
       }
 
   pub going_stop : (i at : ℕ) (now after : List ℕ) → Going net ls b target i at plan now → StepsInto net ls at b None now after → Along net ls b target plan after
@@ -116,8 +116,8 @@ module _ (net : Net) (ls : List (Label Both)) (b target : ℕ) (plan : List ℕ)
         beyond = k.1 ∙ g.beyond;
         sent = λ standing old f s z fits r.
             let m = g.middle standing old f s z fits r in
-            let q = middle_stop target (planned net plan) now after m.sent m.route p in
-            rw q.1 (subst (λ w. Sent net (planned net plan) (planned net now) b w target) q.0 m.sent, m.kept);
+            let q = middle_stop target (the_plan net plan) now after m.sent m.route p in
+            rw q.1 (subst (λ w. Sent net (the_plan net plan) (the_plan net now) b w target) q.0 m.sent, m.kept);
       }
 
   pub going_end : (i at : ℕ) (now : List ℕ) → stations net < i → Going net ls b target i at plan now → Along net ls b target plan now

@@ -7,7 +7,7 @@ use Rattle.plans.specs.declared.direction.Direction.{Direction}
 use Rattle.plans.specs.declared.direction.Direction.TheVariants.{Forth, Back}
 use Rattle.plans.specs.Plans.{stations, leg_at, amount, in_force, Fits}
 use Rattle.plans.specs.Residuals.{tail, head, step_cents, step_both, both_group, Certifies}
-use Rattle.certificates.specs.Pushes.{room, Sent}
+use Rattle.certificates.specs.Pushes.{shifted, room, Sent}
 use Rattle.certificates.proofs.Kept.{kept, rooms, takes_residual}
 use Rattle.certificates.proofs.Moved.{sent_along}
 use Rattle.steps.specs.declared.step.Step.{Step}
@@ -17,7 +17,7 @@ use Rattle.search.specs.Searches.{From}
 use Rattle.search.specs.declared.label.Arrival.{Arrival}
 use Rattle.search.specs.declared.label.Label.{Label}
 use Rattle.pushing.specs.Sends.{Both, Known, SettledFor}
-use Rattle.pushing.specs.Routes.{Leads, room_along, toll, shifted_by, Link, Route, begins, goes}
+use Rattle.pushing.specs.Routes.{Leads, room_along, toll, Link, Route, begins, goes}
 
 -- ---- steps
 pub leads_of : {A : Type 0} (net : Net) (plan : List ℕ) (cost : Direction → ℕ → A) (s : Step) (u v : ℕ) (c : A) → Over net plan cost s u v c → Leads net s u v
@@ -37,6 +37,10 @@ same_toll Back net standing plan other k e = ap (λ y. (step_cents net Back k, c
 
 pub same_over : (net : Net) (standing plan other : List ℕ) (s : Step) → amount plan s.leg ≡ amount other s.leg → (room_along net standing plan s ≡ room_along net standing other s) × (toll net standing plan s ≡ toll net standing other s)
 same_over net standing plan other s e = (ap (room s.direction (in_force (leg_at net s.leg)) (amount standing s.leg)) e, same_toll s.direction net standing plan other s.leg e)
+
+-- the plan after bikes went along a step
+abbrev pub shifted_by : Step → ℕ → List ℕ → List ℕ
+shifted_by s b plan = shifted s.direction plan s.leg b
 
 shifted_other : (s : Step) (b : ℕ) (plan : List ℕ) (k : ℕ) → k ≢ s.leg → amount plan k ≡ amount (shifted_by s b plan) k
 shifted_other s b plan k h = sym (get_or-set_other plan s.leg k _ 0 h)

@@ -14,7 +14,7 @@ use Rattle.draft.specs.declared.Draft.{Draft}
 use Rattle.draft.specs.Drafts.{handed}
 use Rattle.draft.proofs.Handing.{handed_at}
 use Rattle.search.specs.declared.label.Label.{Label}
-use Rattle.pushing.specs.Sends.{Both, SettledFor, planned, Tracks, Sent, Ready, Sends}
+use Rattle.pushing.specs.Sends.{Both, SettledFor, the_plan, Tracks, Sent, Ready, Sends}
 use Rattle.pushing.specs.Routes.{Route, Finds, Along}
 use Rattle.pushing.proofs.Routing.{route_below, route_start, start_below, route_less, route_at}
 
@@ -122,8 +122,8 @@ module _ (net : Net) (standing : List ℕ) (ls : List (Label Both)) (target : �
       ends = apart_ends left s target b some has lacks
 
       -- the route in the plan of the table
-      route_in : Route net standing (planned net plan) ls b target s
-      route_in = route_at (planned net plan) (λ _. Unit {0}) (λ u v x l q h k e p. (tt, sym (get_or-take (length net.legs) plan l.leg 0 p.joined.there))) (route_less fits route) tt
+      route_in : Route net standing (the_plan net plan) ls b target s
+      route_in = route_at (the_plan net plan) (λ _. Unit {0}) (λ u v x l q h k e p. (tt, sym (get_or-take (length net.legs) plan l.leg 0 p.joined.there))) (route_less fits route) tt
 
       at_start : (v : ℕ) → s ≡ v → (v < length left) × SFits w64 (get_or left v (pos 0) -ℤ pos b)
       at_start v e = subst (λ w. (w < length left) × SFits w64 (get_or left w (pos 0) -ℤ pos b)) e (over_there left s b some has, fits_less _ b has fits_start)
@@ -134,7 +134,7 @@ module _ (net : Net) (standing : List ℕ) (ls : List (Label Both)) (target : �
           subst (λ w. (w < length left) × SFits w64 ((get_or left w (pos 0) -ℤ pos (here b s w)) +ℤ pos b)) e (lack_there left target b some lacks, rw (ne_eqb s target ends) (omega (arith, ints, f)))
 
       -- what is left over after it, by what was left over before it
-      left_is : Pushes.Sent net (planned net plan) (planned net after.amounts.now) b s target → ((v : ℕ) → v < stations net → get_or left v (pos 0) ≡ left_over net (planned net plan) v) → (v : ℕ) → v < stations net → get_or after.left.now v (pos 0) ≡ left_over net (planned net after.amounts.now) v
+      left_is : Pushes.Sent net (the_plan net plan) (the_plan net after.amounts.now) b s target → ((v : ℕ) → v < stations net → get_or left v (pos 0) ≡ left_over net (the_plan net plan) v) → (v : ℕ) → v < stations net → get_or after.left.now v (pos 0) ≡ left_over net (the_plan net after.amounts.now) v
       left_is q t v h = ap (λ xs. get_or xs v (pos 0)) written ∙ handed_at s target b left v (at_start v) (at_target v) ∙ ap (λ y. (y -ℤ pos (here b s v)) +ℤ pos (here b target v)) (t v h) ∙ sym (q.moved v)
 
       sent_by : (old : List ℕ) (f : ℕ → Bool) → SettledFor net standing old f ls → Tracks net plan left → Sent net standing ls b plan after.amounts.now after.left.now
@@ -143,7 +143,7 @@ module _ (net : Net) (standing : List ℕ) (ls : List (Label Both)) (target : �
           record {
             tracks = record { fits = q.0.fits; left_overs = left_is q.0 t.left_overs };
             certified = q.1;
-            lower = lowers_over net (planned net plan) (planned net after.amounts.now) b s target q.0 (start_below route) ends (subst (λ y. pos b ≤ℤ y) (t.left_overs s (start_below route)) has) (subst (λ y. (y +ℤ pos b) ≤ℤ pos 0) (t.left_overs target (route_below route)) lacks);
+            lower = lowers_over net (the_plan net plan) (the_plan net after.amounts.now) b s target q.0 (start_below route) ends (subst (λ y. pos b ≤ℤ y) (t.left_overs s (start_below route)) has) (subst (λ y. (y +ℤ pos b) ≤ℤ pos 0) (t.left_overs target (route_below route)) lacks);
           }
 
       pub sends_some : Sends net standing ls target b before after

@@ -2,7 +2,6 @@
 --   Leads       a step over a leg between stations, whatever the amounts
 --   room_along  how many bikes may go along a step
 --   toll        what a step costs
---   shifted_by  the plan after bikes went along a step
 --   Link        a tight step with room for b bikes into a labelled station from another
 --   Route       last steps with room for b bikes, from a station back to where a walk starts
 --   Quotes      what is found of a step
@@ -16,11 +15,12 @@
 use Rattle.std.specs.Prelude.{◌≡◌, ℕ, ◌+◌, ◌-◌, ◌<◌, ◌≤◌, min, Bool, ◌⊎◌, List, length, drop, ℤ, Some, None, Option, ◌≢◌, slice_set}
 use Rattle.records.specs.declared.leg.Leg.{Leg}
 use Rattle.network.specs.Nets.{Net}
+use Rattle.costs.specs.Kinds.{both_kind}
 use Rattle.plans.specs.declared.direction.Direction.{Direction}
 use Rattle.plans.specs.declared.direction.Direction.TheVariants.{Forth, Back}
-use Rattle.plans.specs.Plans.{stations, leg_at, amount, in_force, Fits}
+use Rattle.plans.specs.Plans.{stations, leg_at, amount, in_force, Fits, SameAmounts}
 use Rattle.plans.specs.Residuals.{Joined, tail, head, step_both, both_group, Certifies}
-use Rattle.certificates.specs.Pushes.{shifted, room_over}
+use Rattle.certificates.specs.Pushes.{room_over}
 use Rattle.certificates.specs.Pushes
 use Rattle.steps.specs.declared.step.Step.{Step}
 use Rattle.search.specs.declared.label.Arrival.{Arrival}
@@ -28,7 +28,7 @@ use Rattle.search.specs.Labels.{label_at}
 use Rattle.search.specs.declared.label.Label.{Label}
 use Rattle.pushing.specs.declared.measures.Reach.{Reach}
 use Rattle.pushing.specs.declared.quotes.Quote.{Quote}
-use Rattle.pushing.specs.Sends.{Both, worth_of, Known, SettledFor, planned, SameAmounts, Agrees}
+use Rattle.pushing.specs.Sends.{Both, Known, SettledFor, the_plan, Agrees}
 use Rattle.pushing.specs.declared.looks.Sight.{Sight}
 use Rattle.pushing.specs.declared.looks.Sight.TheVariants.{Begun, Came}
 
@@ -44,13 +44,10 @@ room_along net standing plan s = room_over s.direction net standing plan s.leg
 abbrev pub toll : Net → List ℕ → List ℕ → Step → ℤ × ℤ
 toll net standing plan s = step_both net standing plan s.direction s.leg
 
-abbrev pub shifted_by : Step → ℕ → List ℕ → List ℕ
-shifted_by s b plan = shifted s.direction plan s.leg b
-
 -- a step that is there, or none
 abbrev pub Quotes : Net → List ℕ → List ℕ → Step → Option Quote → Type 0
 Quotes net standing plan s None = (u v : ℕ) → Leads net s u v → ⊥
-Quotes net standing plan s (Some q) = Leads net s q.from q.into × (q.room ≡ room_along net standing plan s) × (worth_of q.cost ≡ toll net standing plan s)
+Quotes net standing plan s (Some q) = Leads net s q.from q.into × (q.room ≡ room_along net standing plan s) × (both_kind.worth q.cost ≡ toll net standing plan s)
 
 -- v is labelled by x, and its last step comes from u, which is labelled too
 pub record Link (net : Net) (standing plan : List ℕ) (ls : List (Label Both)) (b u v : ℕ) (x : Arrival Both) : Type 0 where
@@ -60,7 +57,7 @@ pub record Link (net : Net) (standing plan : List ℕ) (ls : List (Label Both)) 
   pub by : x.last ≡ Some last
   pub leads : Leads net last u v
   pub room : b ≤ room_along net standing plan last
-  pub tight : worth_of x.total ≡ both_group.add (worth_of before.total) (toll net standing plan last)
+  pub tight : both_kind.worth x.total ≡ both_group.add (both_kind.worth before.total) (toll net standing plan last)
 
 pub data Route (net : Net) (standing plan : List ℕ) (ls : List (Label Both)) (b : ℕ) : ℕ → ℕ → Type 0 where
   begins : {v : ℕ} (x : Arrival Both) → v < stations net → Known ls v x → x.last ≡ None → Route net standing plan ls b v v
@@ -101,5 +98,5 @@ StepsInto net ls v b r plan plan' = ((s : Step) × (last_at ls v ≡ Some s) × 
 pub record Along (net : Net) (ls : List (Label Both)) (b v : ℕ) (plan plan' : List ℕ) : Type 0 where
   pub long : length plan' ≡ length plan
   pub beyond : drop (length net.legs) plan' ≡ drop (length net.legs) plan
-  pub sent : (standing old : List ℕ) (f : ℕ → Bool) (s : ℕ) → SettledFor net standing old f ls → Fits net (planned net plan) → Route net standing (planned net plan) ls b v s
-      → Pushes.Sent net (planned net plan) (planned net plan') b s v × ((π : ℕ → ℤ × ℤ) → Agrees net ls π → Certifies net standing (planned net plan) π → Certifies net standing (planned net plan') π)
+  pub sent : (standing old : List ℕ) (f : ℕ → Bool) (s : ℕ) → SettledFor net standing old f ls → Fits net (the_plan net plan) → Route net standing (the_plan net plan) ls b v s
+      → Pushes.Sent net (the_plan net plan) (the_plan net plan') b s v × ((π : ℕ → ℤ × ℤ) → Agrees net ls π → Certifies net standing (the_plan net plan) π → Certifies net standing (the_plan net plan') π)

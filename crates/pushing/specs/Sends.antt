@@ -1,19 +1,18 @@
 -- What one sending does to a plan and to what it leaves over.
---   Both          cents and bikes of difference
---   worth_of      their worth
 --   Known         the arrival in the label of a station
 --   SettledFor    labels that a search in both has settled for a plan, from starts
---   planned       the plan in a table: its first amounts, one for each leg
---   SameAmounts   two tables have the same plan
+--   the_plan      the plan in a table that may be longer: its first amounts, one for each leg
 --   Tracks        the plan in a table fits, and another table says what it leaves over
 --   Agrees        a potential that gives each labelled station the total of its label
 --   Sent          what holds after bikes were sent
 --   Ready         labels and left overs by which at least one bike can be sent
 --   Sends         what a sending does
+-- `Both` is another name of `CentsThenBikes`.
 use Rattle.std.specs.Prelude.{◌≡◌, ℕ, ◌+◌, ◌<◌, Bool, List, length, take, ℤ, pos, ◌<ℤ◌, Some, slice_index_or}
-use Rattle.costs.specs.Kinds.{CentsThenBikes, both_kind}
+pub use Rattle.costs.specs.Kinds.{CentsThenBikes as Both}
+use Rattle.costs.specs.Kinds.{both_kind}
 use Rattle.network.specs.Nets.{Net}
-use Rattle.plans.specs.Plans.{stations, amount, Fits}
+use Rattle.plans.specs.Plans.{stations, Fits, SameAmounts}
 use Rattle.plans.specs.Residuals.{Certifies}
 use Rattle.plans.specs.Cuts.{left_over}
 use Rattle.certificates.specs.Totals.{all_over}
@@ -26,12 +25,6 @@ use Rattle.search.specs.declared.label.Arrival.{Arrival}
 use Rattle.search.specs.declared.label.Label.{Label}
 use Rattle.search.specs.declared.outcome.Outcome.TheVariants.{Settled}
 
-abbrev pub Both : Type 0
-Both = CentsThenBikes
-
-abbrev pub worth_of : Both → ℤ × ℤ
-worth_of p = (p.first.0, p.second.0)
-
 abbrev pub Known : List (Label Both) → ℕ → Arrival Both → Type 0
 Known ls v x = (label_at ls v).arrival ≡ Some x
 
@@ -39,24 +32,21 @@ Known ls v x = (label_at ls v).arrival ≡ Some x
 abbrev pub SettledFor : Net → List ℕ → List ℕ → (ℕ → Bool) → List (Label Both) → Type 0
 SettledFor net standing plan f ls = Answer both_kind net plan (fee_both standing) f Settled ls
 
-abbrev pub planned : Net → List ℕ → List ℕ
-planned net table = take (length net.legs) table
-
-abbrev pub SameAmounts : Net → List ℕ → List ℕ → Type 0
-SameAmounts net one other = (k : ℕ) → k < length net.legs → amount one k ≡ amount other k
+abbrev pub the_plan : Net → List ℕ → List ℕ
+the_plan net table = take (length net.legs) table
 
 pub record Tracks (net : Net) (plan : List ℕ) (left : List ℤ) : Type 0 where
-  pub fits : Fits net (planned net plan)
-  pub left_overs : (v : ℕ) → v < stations net → slice_index_or left v (pos 0) ≡ left_over net (planned net plan) v
+  pub fits : Fits net (the_plan net plan)
+  pub left_overs : (v : ℕ) → v < stations net → slice_index_or left v (pos 0) ≡ left_over net (the_plan net plan) v
 
 abbrev pub Agrees : Net → List (Label Both) → (ℕ → ℤ × ℤ) → Type 0
-Agrees net ls π = (v : ℕ) (x : Arrival Both) → v < stations net → Known ls v x → π v ≡ worth_of x.total
+Agrees net ls π = (v : ℕ) (x : Arrival Both) → v < stations net → Known ls v x → π v ≡ both_kind.worth x.total
 
 -- every certificate that agrees with the labels is one still, and b bikes less are over
 pub record Sent (net : Net) (standing : List ℕ) (ls : List (Label Both)) (b : ℕ) (plan after : List ℕ) (left : List ℤ) : Type 0 where
   pub tracks : Tracks net after left
-  pub certified : (π : ℕ → ℤ × ℤ) → Agrees net ls π → Certifies net standing (planned net plan) π → Certifies net standing (planned net after) π
-  pub lower : all_over net (planned net after) + b ≡ all_over net (planned net plan)
+  pub certified : (π : ℕ → ℤ × ℤ) → Agrees net ls π → Certifies net standing (the_plan net plan) π → Certifies net standing (the_plan net after) π
+  pub lower : all_over net (the_plan net after) + b ≡ all_over net (the_plan net plan)
 
 -- the labels are those of this plan, every start has bikes over, and the target is labelled and lacks bikes
 pub record Ready (net : Net) (standing old : List ℕ) (f : ℕ → Bool) (ls : List (Label Both)) (target : ℕ) (plan : List ℕ) : Type 0 where
@@ -64,8 +54,8 @@ pub record Ready (net : Net) (standing old : List ℕ) (f : ℕ → Bool) (ls : 
   pub labelled : Known ls target arrival
   pub below : target < stations net
   pub same : SameAmounts net old plan
-  pub lacks : left_over net (planned net plan) target <ℤ pos 0
-  pub over : (v : ℕ) → From net f v → pos 0 <ℤ left_over net (planned net plan) v
+  pub lacks : left_over net (the_plan net plan) target <ℤ pos 0
+  pub over : (v : ℕ) → From net f v → pos 0 <ℤ left_over net (the_plan net plan) v
 
 -- b bikes were sent
 pub record Sends (net : Net) (standing : List ℕ) (ls : List (Label Both)) (target b : ℕ) (before after : Draft) : Type 0 where

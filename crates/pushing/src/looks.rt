@@ -1,9 +1,9 @@
 // The last step of a label, as a plan stands now.
 ghost use Rattle.std.specs.Prelude.{◌≡◌, Decides};
+ghost use Rattle.costs.specs.Kinds.{both_kind};
 ghost use Rattle.plans.specs.Residuals.{both_group};
 ghost use Rattle.search.specs.Labels.{label_at};
 ghost use Rattle.pushing.specs.Routes.{Sees};
-ghost use Rattle.pushing.specs.Sends.{worth_of};
 
 use crate::Routes;
 use costs::CentsThenBikes;
@@ -21,7 +21,7 @@ pub(crate) enum Sight {
 
 // Whether a total is the sum of two others. Not by `sum`, which stops at a limit.
 fn is_sum(total: CentsThenBikes, one: CentsThenBikes, other: CentsThenBikes) -> bool
-    ensures { Decides result (worth_of total ≡ both_group.add (worth_of one) (worth_of other)) }
+    ensures { Decides result (both_kind.worth total ≡ both_group.add (both_kind.worth one) (both_kind.worth other)) }
 {
     one.first.0.checked_add(other.first.0) == Some(total.first.0)
         && one.second.0.checked_add(other.second.0) == Some(total.second.0)

@@ -1,4 +1,4 @@
-// Bikes that go along last steps.
+// Bikes that go along last steps. How many, and the plan, are handed on by themselves: no more than these two go together.
 ghost use Rattle.pushing.specs.Routes.{Along, Steps, StepsInto};
 
 use crate::Routes;
@@ -13,7 +13,9 @@ impl<'a, N: Network> Routes<'a, N> {
         ensures { Steps (N.Network.meaning self.now.net.now) bikes step result plan.old plan.new }
     {
         let Step { direction, leg } = step;
-        let load = Load::of(self.net, plan, leg)?;
+        let Some(load) = Load::of(self.net, plan, leg) else {
+            return None;
+        };
         let amount = match direction {
             Direction::Forth => load.amount.saturating_add(bikes).min(in_force(load.leg)),
             Direction::Back => load.amount.saturating_sub(bikes),

@@ -41,7 +41,9 @@ impl<'a, N: Network> Routes<'a, N> {
         ensures { Quotes (N.Network.meaning self.now.net.now) self.now.standing.now plan.now step result }
     {
         let Step { direction, leg } = step;
-        let load = Load::joined(self.net, plan, leg)?;
+        let Some(load) = Load::joined(self.net, plan, leg) else {
+            return None;
+        };
         let fees = InBoth {
             standing: self.standing,
         };

@@ -13,10 +13,10 @@ fn cents_on<N: Network>(net: &N, plan: &[u16], number: usize) -> u64
     ensures value { result ≡ (leg_at (N.Network.meaning net.now) number).charge * amount plan.now number }
     ensures bound { result < 2 ^ 48 }
 {
-    Load::of(net, plan, number).map_or(
-        0,
-        |load| u64::from(load.leg.charge) * u64::from(load.amount),
-    )
+    let Some(load) = Load::of(net, plan, number) else {
+        return 0;
+    };
+    u64::from(load.leg.charge) * u64::from(load.amount)
 }
 
 // The cents of a plan: charge × bikes over all legs.

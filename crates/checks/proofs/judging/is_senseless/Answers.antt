@@ -1,11 +1,12 @@
-use Rattle.std.proofs.Common.{◌≡◌, true, MatchOption, rules}
-use Rattle.plans.specs.Plans.{stations}
+use Rattle.std.proofs.Common.{true, Some, None, refl, ap, ◌∙◌}
 use Rattle.checks.specs.Checks.{senseless_leg}
 use Rattle.checks.proofs.Passing.{judged_option}
 use Rattle.checks.proofs.judging.is_senseless.Goals as goal
 
+pub returns-in_default : goal.returns-in_default
+returns-in_default g c = judged_option (g.N.Network.meaning c.args.net.now) c.args.number None true c.in_default.ensures refl
+
 pub returns : goal.returns
 returns g c =
-    let net = g.N.Network.meaning c.args.net.now in
-    let judged : MatchOption c.leg.result (c.is_none_or.result ≡ true) (λ l. c.is_none_or.result ≡ senseless_leg (stations net) l) = search rules in
-    judged_option net c.args.number c.leg.result c.is_none_or.result c.leg.ensures judged
+    judged_option (g.N.Network.meaning c.args.net.now) c.args.number (Some c.in-Some.leg) c.makes_no_sense.result c.in-Some.ensures
+    (c.makes_no_sense.ensures ∙ ap (λ n. senseless_leg n c.in-Some.leg) c.stations.ensures)

@@ -19,4 +19,4 @@ unreachable-requires-in-Err g c =
 pub returns-clause-finishes : goal.returns-clause-finishes
 returns-clause-finishes g c cut =
     accepted (g.N.Network.meaning c.args.self.now.net.now) c.args.self.now.standing.now c.plan_in-plan.result.now c.args.tables.now.draft.amounts.now c.plan_in-plan.ensures c.requires.best c.in-Ok-Settled.field-0 _ _
-    c.in-Ok-Settled.ensures.priced.3 _ _ cut c.in-Ok-Settled.field-0-is c.cents_of.ensures c.difference_of.ensures
+    c.in-Ok-Settled.ensures.priced.3 _ _ cut c.in-Ok-Settled.field-0-is c.cents_of.ensures c.difference_of.ensures c.prices.auto.prices
