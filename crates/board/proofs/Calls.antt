@@ -35,9 +35,11 @@ runs_listed : (r : Result ℕ Refusal) (n : Net) (xs vs ks ks' : List ℕ) (mark
     → length n.legs ≤ 3000 → length n.legs ≤ length marks → Renews (runs (take (length n.legs) xs)) (length n.legs) 3000 r ks ks' marks marks' out out'
     → Follows (seen n xs vs ks) (ListRuns (length out)) (listed r) (papers prices out) (papers prices out') (seen n xs vs ks')
 runs_listed (Ok r) n xs vs ks ks' marks marks' out out' prices p q l =
-    let a = l.1 in
+    let made = l.1 in
+    let a = l.2 in
+    let long = a.long ∙ ap length made in
     when_accepted (seen n xs vs ks) (ListRuns (length out)) (Listed r) (papers prices out) (papers prices out') (seen n xs vs ks') (long_enough (length out) (length n.legs) l.0.0)
-    (ap (λ (k : ℕ). Listed k) (a.long ∙ ap length a.made), ap (λ (ys : List ℕ). papers prices ys) (parts r (running_list (seen n xs vs ks)) out out' (a.list ∙ a.made) a.beyond (a.long ∙ ap length a.made)), ap (λ (zs : List ℕ). seen n xs vs zs) a.made)
+    (ap (λ (k : ℕ). Listed k) long, ap (λ (ys : List ℕ). papers prices ys) (parts r (running_list (seen n xs vs ks)) out out' (a.list ∙ made) a.beyond long), ap (λ (zs : List ℕ). seen n xs vs zs) made)
 runs_listed (Err e) n xs vs ks ks' marks marks' out out' prices p q l =
     when_refused (seen n xs vs ks) (ListRuns (length out)) e (papers prices out) (papers prices out') (seen n xs vs ks')
     (too_short (length out) (length n.legs) (only_out (length n.legs) (length out) 3000 (length marks) p q l.1) ∙ ap (λ (r : Refusal). Some (number r, place r)) (sym l.0))

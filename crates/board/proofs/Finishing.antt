@@ -10,4 +10,4 @@ use Rattle.board.specs.declared.entries.Entries.{Entries}
 
 pub ran_all : (has : Entries) (m : ℕ) (first last : Tally) (calls : List Call) (answers answers' : List Answer) (lent lent' : Lent) → length calls ≤ length answers → Fits m calls (length calls) has
     → MadeAll m first last calls (length calls) answers answers' lent lent' → Ran (Ok tt) has m first last calls answers answers' lent lent'
-ran_all has m first last calls answers answers' lent lent' h F A = (h, F, λ s. whole m first last calls answers answers' lent lent' A.tally s A.run A.beyond)
+ran_all has m first last calls answers answers' lent lent' h F A = (h, F, A, λ s. whole m first last calls answers answers' lent lent' A.tally s A.run A.beyond)

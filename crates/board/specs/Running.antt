@@ -7,7 +7,7 @@
 --   lending      memory as lists
 --   lent_by      what a sheet lends
 --   given        how much memory is lent
---   SameSheet    the same slices, with as many entries
+--   SameSheet    the same slices, with as many entries; a clause, as SameDraft is, since a struct of `&mut` slices has no invariant over a call
 --   Stays        what stays of network, sheet and working tables
 --   Handed       a call that is handed what it takes
 --   HasRoom      a call that finds what it takes
@@ -99,7 +99,8 @@ pub record Handed (m : ℕ) (call : Call) (has : Entries) : Type 0 where
   pub stations : stations_long call ≤ has.stations
   pub legs : legs_long call ≤ has.legs
 
--- its entries lie within the lent memory from the places on
+-- its entries lie within the lent memory from the places on; what it asks of working tables, in two fields, is what Handed asks, and
+-- stands in both, so that each says its case in full
 pub record HasRoom (m : ℕ) (call : Call) (at has : Entries) : Type 0 where
   pub prices : at.prices + prices_long call ≤ has.prices
   pub numbers : at.numbers + numbers_long call ≤ has.numbers
@@ -118,10 +119,12 @@ pub record MadeAll (m : ℕ) (first last : Tally) (calls : List Call) (count : �
   pub run : Run m first last calls count answers' lent lent' tally
   pub beyond : Beyond m calls count answers answers' lent lent'
 
--- refused exactly when there are fewer answers than calls or the memory does not suffice, with nothing altered
+-- accepted, all calls were made, each by its rule; from a sound tally all that is true of a run holds besides. Refused exactly when
+-- there are fewer answers than calls or the memory does not suffice; tally, answers and sheet then stay
 abbrev pub Ran : Result (Unit {0}) Refusal → Entries → ℕ → Tally → Tally → List Call → List Answer → List Answer → Lent → Lent → Type 0
 Ran (Ok u) has m first last calls answers answers' lent lent' =
-    (length calls ≤ length answers) × Fits m calls (length calls) has × (Sound m first → WholeRun m first last calls answers answers' lent lent')
+    (length calls ≤ length answers) × Fits m calls (length calls) has × MadeAll m first last calls (length calls) answers answers' lent lent'
+    × (Sound m first → WholeRun m first last calls answers answers' lent lent')
 Ran (Err e) has m first last calls answers answers' lent lent' =
     (e ≡ SliceTooShort) × (length calls ≤ length answers → Fits m calls (length calls) has → ⊥) × ((last ≡ first) × (answers' ≡ answers) × (lent' ≡ lent))
 

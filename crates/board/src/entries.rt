@@ -1,4 +1,5 @@
-// How much of the memory that is lent to a run a call takes, and where in it the next call's part begins.
+// How much of the memory that is lent to a run a call takes, and where in it the next call's part begins. The count of legs comes with
+// the calls, which do not say it.
 ghost use Rattle.std.specs.Prelude.{◌≡◌, length, Decides, MatchOption};
 ghost use Rattle.board.specs.Running.{Fits, Left, TooFew, entries, of_lengths};
 

@@ -2,12 +2,11 @@
 --   none             the standing plan that sends no bike, on three legs
 --   OnlyBest         a plan that alone is cheapest, then nearest, with its cents and its difference
 --   OnlyPrice        the one price of a station
---   Alike            two standing plans with the same amounts on the legs of a network
 --   WorkedExamples   all of the examples
-use Rattle.std.specs.Prelude.{List, [], ◌∷◌, ◌⊎◌, ◌↔◌, ◌≡◌, ℕ, ◌<◌, ℤ, pos, negsuc, length}
+use Rattle.std.specs.Prelude.{List, [], ◌∷◌, ◌⊎◌, ◌↔◌, ◌≡◌, ℕ, ℤ, pos, negsuc}
 use Rattle.network.specs.Nets.{Net}
 use Rattle.table.specs.Tables.{table_of}
-use Rattle.plans.specs.Plans.{amount, Obeys, cents, difference, CheapestThenNearest}
+use Rattle.plans.specs.Plans.{Obeys, cents, difference, SameAmounts, CheapestThenNearest}
 use Rattle.plans.specs.Prices.{Price}
 use Rattle.plans.specs.Cuts.{Cut}
 use Rattle.examples.specs.Networks.{station, T_legs, U_legs, three_stations, T, U, T_shut, U_shut, T_limited, lone, lone_yard}
@@ -24,9 +23,6 @@ pub record OnlyBest (net : Net) (standing plan : List ℕ) (c d : ℕ) : Type 0 
 -- of station v under a plan
 abbrev pub OnlyPrice : Net → List ℕ → ℕ → ℤ → Type 0
 OnlyPrice net plan v z = (s : ℤ) → Price net plan v s ↔ (s ≡ z)
-
-abbrev pub Alike : Net → List ℕ → List ℕ → Type 0
-Alike net standing other = (k : ℕ) → k < length net.legs → amount standing k ≡ amount other k
 
 pub record WorkedExamples : Type 0 where
   -- the networks are what tables of these records mean
@@ -52,4 +48,4 @@ pub record WorkedExamples : Type 0 where
   -- the yard takes the 3 bikes that are to spare
   pub yard_takes_what_is_to_spare : OnlyBest lone_yard (0 ∷ 0 ∷ []) (3 ∷ 0 ∷ []) 75 3
   -- of a standing plan only the amounts on the legs count, so the examples hold for longer and shorter lists too
-  pub standing_amounts_alone_count : (net : Net) (standing other plan : List ℕ) (c d : ℕ) → Alike net standing other → OnlyBest net standing plan c d → OnlyBest net other plan c d
+  pub standing_amounts_alone_count : (net : Net) (standing other plan : List ℕ) (c d : ℕ) → SameAmounts net standing other → OnlyBest net standing plan c d → OnlyBest net other plan c d

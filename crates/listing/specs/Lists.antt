@@ -5,11 +5,11 @@
 --   listed       the list that follows an earlier one
 --   Before       one number stands before another on a list
 --   Ordered      what a list keeps that follows an earlier one
---   KeepsOrder   the list that follows an earlier one keeps it
---   Determined   no other list does
+--   KeepsOrder   the list that follows an earlier one that names nobody twice keeps it
+--   Determined   no other list does, where the earlier one names nobody twice
 --   stayers      those of an earlier list that still may be on the list
 --   newcomers    those that were not on it and now may be
---   InTwoParts   the list has the stayers first, then the newcomers
+--   InTwoParts   the list has the stayers first, then the newcomers, where the earlier one names nobody twice
 -- A test `belongs` tells who belongs, and the numbers are those below `count`.
 use Rattle.std.specs.Prelude.{◌≡◌, ℕ, ◌<◌, Bool, true, false, cond, not, ◌&&◌, ◌⊎◌, List, [], ◌∷◌, ◌++◌, fold, filter, nat_lt}
 use Rattle.std.specs.List.{range_with_len}
@@ -47,7 +47,7 @@ pub record Ordered (belongs : ℕ → Bool) (count : ℕ) (earlier now : List �
   pub order_kept : (u v : ℕ) → among u now ≡ true → among v now ≡ true → Before u v earlier → Before u v now
   pub newcomers_rise : (u v : ℕ) → among u now ≡ true → among v now ≡ true → among u earlier ≡ false → among v earlier ≡ false → u < v → Before u v now
 
--- where the earlier list names nobody twice
+-- here and in the two below, where the earlier list names nobody twice
 abbrev pub KeepsOrder : Type 0
 KeepsOrder = (belongs : ℕ → Bool) (count : ℕ) (earlier : List ℕ) → Distinct earlier → Ordered belongs count earlier (listed belongs count earlier)
 

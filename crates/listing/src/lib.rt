@@ -108,12 +108,12 @@ pub fn lists_keep_their_order()
     ensures { KeepsOrder }
 {}
 
-// No other list does.
+// No other list does, where the earlier one names nobody twice.
 pub fn order_determines_a_list()
     ensures { Determined }
 {}
 
-// It is those of the earlier list that still belong, then those that belong and were not on it.
+// Where the earlier list names nobody twice, it is those of it that still belong, then those that belong and were not on it.
 pub fn lists_have_two_parts()
     ensures { InTwoParts }
 {}

@@ -1,5 +1,5 @@
 -- What holds after a call of each kind.
-use Rattle.std.proofs.Common.{◌≡◌, ℕ, cond, ◌⊎◌, ◌↔◌, List, [], ◌∷◌, length, take, drop, ℤ, Some, None, sym, refl, ap, ◌∙◌, subst, inl, inr, arith, le-ltb}
+use Rattle.std.proofs.Common.{◌≡◌, ℕ, ◌≤◌, cond, ◌⊎◌, ◌↔◌, List, [], ◌∷◌, length, take, drop, ℤ, Some, None, sym, refl, ap, ◌∙◌, subst, inl, inr, arith, le-ltb, length-drop}
 use Rattle.records.specs.Refusals.{place}
 use Rattle.records.specs.declared.leg.Mark.TheVariants.{Shut}
 use Rattle.records.specs.declared.refusal.Refusal.{Refusal}
@@ -81,21 +81,23 @@ new_plan t plan c d (Planned k e) q q' u b a =
       stands = a.1 ∙ ap (with_plan t) i;
       priced = subst (λ p. Prices t.meaning p q'.prices) i a.0.priced;
       prices_beyond = a.0.prices_beyond;
+      prices_as_long = a.0.prices_as_long;
       cut_stays = a.0.cut_stays;
     }
 new_plan t plan c d (Refused e) q q' u b a = absurd (a.1.none_obeys plan ((b.exactly plan).1 refl).obeys)
 new_plan t plan c d _ q q' u b a = absurd a
 
 accepted : (t : Tally) (plan : List ℕ) (c d : ℕ) (q q' : Papers) → OnlyBest t.meaning t.plan plan c d → Prices t.meaning plan q'.prices
-    → drop (stations t.meaning) q'.prices ≡ drop (stations t.meaning) q.prices → q'.numbers ≡ q.numbers → PlanAnswers t (Planned c d) q q' (with_plan t plan)
-accepted t plan c d q q' b f g h =
-    (record { best = (b.exactly plan).1 refl; costs = sym b.costs; differs = sym b.differs; priced = f; prices_beyond = g; cut_stays = h }, refl)
+    → drop (stations t.meaning) q'.prices ≡ drop (stations t.meaning) q.prices → (stations t.meaning ≤ length q.prices → length q'.prices ≡ length q.prices) → q'.numbers ≡ q.numbers
+    → PlanAnswers t (Planned c d) q q' (with_plan t plan)
+accepted t plan c d q q' b f g l h =
+    (record { best = (b.exactly plan).1 refl; costs = sym b.costs; differs = sym b.differs; priced = f; prices_beyond = g; prices_as_long = l; cut_stays = h }, refl)
 
 planned : (t : Tally) (plan : List ℕ) (c d : ℕ) (q : Papers) → OnlyBest t.meaning t.plan plan c d → (q' : Papers) × PlanAnswers t (Planned c d) q q' (with_plan t plan)
 planned t plan c d q b =
     let best : CheapestThenNearest t.meaning t.plan plan = (b.exactly plan).1 refl in
     let e = prices_entered t.meaning t.plan plan q.prices best in
-    (papers e.after q.numbers, accepted t plan c d q (papers e.after q.numbers) b (prices_are t.meaning t.plan plan q.prices best e) e.beyond refl)
+    (papers e.after q.numbers, accepted t plan c d q (papers e.after q.numbers) b (prices_are t.meaning t.plan plan q.prices best e) e.beyond e.as_long refl)
 
 -- an answer and a tally for which others were put
 replaced : (t : Tally) (x y : Answer) (q q' : Papers) (u v : Tally) → x ≡ y → u ≡ v → PlanAnswers t y q q' v → PlanAnswers t x q q' u
@@ -108,7 +110,7 @@ after_planning t plan c d next m b h l hp hk hs hl =
     (λ q. let a = planned t plan c d q b in (Planned c d, a.0, with_plan t plan, new_plan t plan c d (Planned c d) q a.0 (with_plan t plan) b a.1))
     (λ x q q' u. (
       new_plan t plan c d x q q' u b,
-      λ o. replaced t x (Planned c d) q q' u (with_plan t plan) o.answered o.stands (accepted t plan c d q q' b o.priced o.prices_beyond o.cut_stays),
+      λ o. replaced t x (Planned c d) q q' u (with_plan t plan) o.answered o.stands (accepted t plan c d q q' b o.priced o.prices_beyond o.prices_as_long o.cut_stays),
     ))
     (λ x q q' u o. subst next (sym o.stands) h)
 
@@ -152,6 +154,7 @@ refused t a b q q' m k f g = (
     room = rw f (omega arith);
     is_cut = rw f (subst (λ net. Cut net (a ∷ b ∷ [])) (sym m) k);
     cut_beyond = rw f refl;
+    cut_as_long = λ h. rw f (omega (arith, h, length-drop 2 q.numbers));
     prices_stay = g;
   },
   refl,

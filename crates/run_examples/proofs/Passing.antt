@@ -1,12 +1,12 @@
 -- A planning that meets no fault because all that is handed in is long enough.
 use Rattle.std.proofs.Common.{◌≡◌, ℕ, ◌≤◌, Bool, false, cond, ◌||◌, ltb, length, Some, None, Option, refl, ap, ◌∙◌, le-ltb}
-use Rattle.std.specs.Option.{option_map}
+use Rattle.std.specs.Option.{option_map, option_or}
 use Rattle.records.specs.Refusals.{number, place}
 use Rattle.records.specs.declared.refusal.Refusal.{Refusal}
 use Rattle.records.specs.declared.refusal.Refusal.TheVariants.{SliceTooShort, SenselessLeg, BalanceTooLarge, UnevenBalances}
 use Rattle.network.specs.Nets.{Net}
 use Rattle.plans.specs.Plans.{stations}
-use Rattle.checks.specs.Checks.{or_else, lowest, senseless, too_large, uneven}
+use Rattle.checks.specs.Checks.{lowest, senseless, too_large, uneven}
 use Rattle.checks.specs.declared.lengths.Lengths.{Lengths}
 use Rattle.tally.specs.Tallies.{Tally}
 use Rattle.tally.specs.Follows.{fault}
@@ -15,8 +15,8 @@ use Rattle.tally.specs.declared.call.Call.TheVariants.{Plan}
 -- what a planning deserves if all that is handed in is long enough
 abbrev pub deserved : Net → Option Refusal
 deserved net =
-    or_else (option_map SenselessLeg (lowest (senseless net) (length net.legs)))
-    (or_else (option_map BalanceTooLarge (lowest (too_large net) (stations net)))
+    option_or (option_map SenselessLeg (lowest (senseless net) (length net.legs)))
+    (option_or (option_map BalanceTooLarge (lowest (too_large net) (stations net)))
     (cond (uneven net) (Some UnevenBalances) None))
 
 none_of : (a b c d : Bool) (o : Option Refusal) → a ≡ false → b ≡ false → c ≡ false → d ≡ false → cond (a || (b || (c || d))) (Some SliceTooShort) o ≡ o

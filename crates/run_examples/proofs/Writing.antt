@@ -16,20 +16,22 @@ pub record Entered (P : ℕ → ℤ → Type 0) (n : ℕ) (before : List ℤ) : 
   pub after : List ℤ
   pub each : (v : ℕ) → v < n → P v (price_at after v)
   pub beyond : drop n after ≡ drop n before
+  pub as_long : n ≤ length before → length after ≡ length before
 
-put : (P : ℕ → ℤ → Type 0) (n : ℕ) (z : ℤ) (before rest : List ℤ) → P 0 z → ((v : ℕ) → v < n → P (suc v) (price_at rest v)) → drop n rest ≡ drop (suc n) before → Entered P (suc n) before
-put P n z before rest p f e = record { after = z ∷ rest; each = at; beyond = e }
+put : (P : ℕ → ℤ → Type 0) (n : ℕ) (z : ℤ) (before rest : List ℤ) → P 0 z → ((v : ℕ) → v < n → P (suc v) (price_at rest v)) → drop n rest ≡ drop (suc n) before
+    → (suc n ≤ length before → length (z ∷ rest) ≡ length before) → Entered P (suc n) before
+put P n z before rest p f e l = record { after = z ∷ rest; each = at; beyond = e; as_long = l }
   where
     at : (v : ℕ) → v < suc n → P v (price_at (z ∷ rest) v)
     at zero h = p
     at (suc v) h = f v (omega arith)
 
 pub enter : (P : ℕ → ℤ → Type 0) (n : ℕ) (before : List ℤ) → ((v : ℕ) → v < n → (z : ℤ) × P v z) → Entered P n before
-enter P zero before f = record { after = before; each = λ v h. absurd (omega arith); beyond = refl }
+enter P zero before f = record { after = before; each = λ v h. absurd (omega arith); beyond = refl; as_long = λ h. refl }
 enter P (suc n) [] f =
     let a = f 0 (omega arith) in
     let r = enter (λ v. P (suc v)) n [] (λ v h. f (suc v) (omega arith)) in
-    put P n a.0 [] r.after a.1 r.each (r.beyond ∙ nothing n)
+    put P n a.0 [] r.after a.1 r.each (r.beyond ∙ nothing n) (λ h. absurd (omega arith))
   where
     nothing : (k : ℕ) → ◌≡◌ {A = List ℤ} (drop {A = ℤ} k []) []
     nothing zero = refl
@@ -37,7 +39,7 @@ enter P (suc n) [] f =
 enter P (suc n) (y ∷ ys) f =
     let a = f 0 (omega arith) in
     let r = enter (λ v. P (suc v)) n ys (λ v h. f (suc v) (omega arith)) in
-    put P n a.0 (y ∷ ys) r.after a.1 r.each r.beyond
+    put P n a.0 (y ∷ ys) r.after a.1 r.each r.beyond (λ h. let k : n ≤ length ys = omega arith in ap suc (r.as_long k))
 
 -- the prices under a best plan can be written into any slice
 pub prices_entered : (net : Net) (standing plan : List ℕ) (before : List ℤ) → CheapestThenNearest net standing plan → Entered (Price net plan) (stations net) before

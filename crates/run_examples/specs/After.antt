@@ -46,12 +46,13 @@ abbrev pub End : Tally → Type 0
 End t = Unit {0}
 
 -- at c cents and at the difference d from the plan before; the plan stands, each station has its price under it, and all
--- else stays
+-- else stays, the length of a slice with all prices, too
 pub record NewPlan (t : Tally) (plan : List ℕ) (c d : ℕ) (x : Answer) (q q' : Papers) (t' : Tally) : Type 0 where
   pub answered : x ≡ Planned c d
   pub stands : t' ≡ with_plan t plan
   pub priced : Prices t.meaning plan q'.prices
   pub prices_beyond : drop (stations t.meaning) q'.prices ≡ drop (stations t.meaning) q.prices
+  pub prices_as_long : stations t.meaning ≤ length q.prices → length q'.prices ≡ length q.prices
   pub cut_stays : q'.numbers ≡ q.numbers
 
 -- its entries one by one; and the whole slice, if it is long enough: the prices, and then what was there before

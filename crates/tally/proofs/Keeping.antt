@@ -1,9 +1,11 @@
 -- Every tally of a run has one amount for each leg and lists that name nobody twice.
-use Rattle.std.proofs.Common.{◌≡◌, ℕ, length, sym, ap, ◌∙◌, subst, length-set}
+use Rattle.std.proofs.Common.{◌≡◌, ℕ, length, refl, sym, ap, ◌∙◌, subst, length-set}
+use Rattle.std.proofs.lemmas.List.{length-replicate}
 use Rattle.listing.proofs.Entering.{keeps_order}
 use Rattle.theory.specs.Walks.{Distinct}
 use Rattle.tally.specs.Tallies.{Tally, short, runs, short_list, running_list}
 use Rattle.tally.specs.Follows.{Papers, PlanAnswers, Accepts, Follows}
+use Rattle.tally.specs.Laws.{StaySound}
 use Rattle.tally.specs.Runs.{Sound}
 use Rattle.tally.specs.declared.answer.Answer.{Answer}
 use Rattle.tally.specs.declared.answer.Answer.TheVariants.{Refused, Planned}
@@ -39,6 +41,13 @@ accepts_sound m t (Read k) x p p' t' s a = moved m a.2 s
 -- one call more
 pub sound_more : (m : ℕ) (t : Tally) (call : Call) (x : Answer) (p p' : Papers) (t' : Tally) → Sound m t → Follows t call x p p' t' → Sound m t'
 sound_more m t call x p p' t' s F = met t call F (λ f e r. moved m r.2 s) (λ e a. accepts_sound m t call x p p' t' s a)
+
+pub stays_sound : StaySound
+stays_sound =
+    record {
+      begins = λ net. record { legs_stay = refl; one_each = length-replicate (length net.legs) 0; stations_once = tt; runs_once = tt };
+      stays = sound_more;
+    }
 
 -- no call changes how many legs there are
 legs_planned : (t : Tally) (x : Answer) (p p' : Papers) (t' : Tally) → PlanAnswers t x p p' t' → length t'.meaning.legs ≡ length t.meaning.legs

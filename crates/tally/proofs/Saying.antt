@@ -1,7 +1,7 @@
 -- What an answer of each kind says of the call.
 use Rattle.std.proofs.Common.{◌≡◌, ℕ, ◌<◌, Bool, true, false, cond, ltb, List, length, Some, None, Option, sym, refl, ap, ◌∙◌, subst, arith, lit<}
 use Rattle.std.specs.List.{slice_get}
-use Rattle.std.specs.Option.{option_map}
+use Rattle.std.specs.Option.{option_map, option_or}
 use Rattle.std.proofs.lemmas.Option.{none-some}
 use Rattle.records.specs.Refusals.{number, place}
 use Rattle.records.specs.declared.refusal.Refusal.{Refusal}
@@ -9,7 +9,7 @@ use Rattle.records.specs.declared.refusal.Refusal.TheVariants.{SenselessLeg, Bal
 use Rattle.records.specs.declared.leg.Mark.TheVariants.{Open, Shut}
 use Rattle.network.specs.Nets.{Net}
 use Rattle.network.specs.Offices.{reportable, has_mark}
-use Rattle.checks.specs.Checks.{lowest, or_else, too_short, senseless, too_large, uneven, checked}
+use Rattle.checks.specs.Checks.{lowest, too_short, senseless, too_large, uneven, checked}
 use Rattle.checks.specs.declared.lengths.Lengths.{Lengths}
 use Rattle.plans.specs.Plans.{stations, Obeys}
 use Rattle.tally.specs.Tallies.{Tally}
@@ -75,9 +75,9 @@ cond_low : {X : Type 0} (n : X → ℕ) (b : Bool) (o u : Option X) → Low n o 
 cond_low n true o u p q = p
 cond_low n false o u p q = q
 
-or_else_low : (o u : Option Refusal) → Low number o → Low number u → Low number (or_else o u)
-or_else_low None u p q = q
-or_else_low (Some e) u p q = p
+option_or_low : (o u : Option Refusal) → Low number o → Low number u → Low number (option_or o u)
+option_or_low None u p q = q
+option_or_low (Some e) u p q = p
 
 mapped_low : (o : Option Refusal) → Low number o → Low told (option_map (λ (e : Refusal). (number e, place e)) o)
 mapped_low None p = tt
@@ -94,8 +94,8 @@ too_large_low (Some k) = lit< tt
 checked_low : (net : Net) (l : Lengths) → Low number (checked net l)
 checked_low net l =
     cond_low number (too_short net l) _ _ (lit< tt)
-    (or_else_low _ _ (senseless_low (lowest (senseless net) (length net.legs)))
-    (or_else_low _ _ (too_large_low (lowest (too_large net) (stations net))) (cond_low number (uneven net) _ _ (lit< tt) tt)))
+    (option_or_low _ _ (senseless_low (lowest (senseless net) (length net.legs)))
+    (option_or_low _ _ (too_large_low (lowest (too_large net) (stations net))) (cond_low number (uneven net) _ _ (lit< tt) tt)))
 
 fault_low : (t : Tally) (call : Call) → Low told (fault t call)
 fault_low t (Report s b) = cond_low told (ltb s t.meaning.open_stations) _ _ (cond_low told (reportable b) _ _ tt (lit< tt)) (lit< tt)

@@ -35,7 +35,7 @@ written new old = new ++ drop (length new) old
 
 -- by number and place, as callers are told refusals and as the faults of an office are defined:
 -- 7 or 8 of a report, 9 or 10 of a closing or reopening, 11 to 14 of a planning, 11 of a listing whose slice is shorter
--- than the stations or legs to list are many, none of a reading
+-- than the open stations, or the legs, are many, none of a reading
 abbrev pub fault : Tally → Call → Option (ℕ × ℕ)
 fault t (Report s b) = report_fault t.meaning.open_stations s b
 fault t (Close k) = mark_fault t.meaning.road_legs t.meaning.legs k Shut

@@ -124,8 +124,8 @@ pub record NoPlan (t : Tally) (stations : List ℕ) : Type 0 where
   pub is_cut : Cut t.meaning stations
 
 -- the tallies, the first and the last; each follows the one before it and is computed from it; and of every call: a refused one
--- alters nothing; an accepted planning found the best plan, one refused by 15 a cut, and one that meets no fault is accepted
--- where a plan obeys; a list names each of its sort once and no other, first those of the last list of that sort
+-- leaves the tally as it was; an accepted planning found the best plan, one refused by 15 a cut, and one that meets no fault is
+-- accepted where a plan obeys; a list names each of its sort once and no other, first those of the last list of that sort
 -- in their order there, then the others by rising number
 pub record WholeRun (m : ℕ) (first last : Tally) (calls : List Call) (answers answers' : List Answer) (lent lent' : Lent) : Type 0 where
   pub tally : ℕ → Tally

@@ -2,7 +2,7 @@
 // plan and lists. No code of a board is in here; the crate `board` is proved against it.
 #![tactic(auto)]
 
-ghost use Rattle.tally.specs.Laws.{Computed, Determined};
+ghost use Rattle.tally.specs.Laws.{Computed, Determined, StaySound};
 
 pub mod answer;
 pub mod call;
@@ -21,4 +21,9 @@ pub fn tallies_are_computed()
 // answers.
 pub fn calls_determine_answers()
     ensures { Determined }
+{}
+
+// A new tally has one amount for each leg and lists that name nobody twice, and no call changes that.
+pub fn tallies_stay_sound()
+    ensures { StaySound }
 {}
