@@ -27,7 +27,8 @@ fn legs() -> [Leg; 6] {
     ]
 }
 
-// A call on four open stations of five and six road legs of 14, one in a few of them beyond a limit.
+// A call on four open stations of five and six road legs of 14, one in a few of them beyond a limit. Of 16 calls 5 are reports and 4 are
+// plannings, on the average.
 fn draw(generator: &mut Generator) -> Call {
     let kind = generator.below(16);
     let number = usize::from(generator.below(15));

@@ -17,7 +17,8 @@ pub const ALL: Entries = Entries {
     legs: MOST_LEGS + 1,
 };
 
-// What a run answers and hands out, and its working tables. Vectors of its own: they are read when the sheet is given back.
+// What a run answers and hands out, and its working tables. Vectors of its own: they are read when the sheet is given back. What is lent
+// to one planning is another struct, in its tests: it has no answers, and parts of tables in place of a sheet.
 #[derive(Drop)]
 pub struct Memory {
     pub answers: Vec<Answer>,

@@ -1,4 +1,5 @@
-// Both sides of the limits of each call and of a run, and what a refusal leaves.
+// Both sides of the limits of each call and of a run, and what a refusal leaves. Limits of lengths and
+// records are taken by their constants, which contracts spell out; what is reported stands in digits.
 use crate::calls::{least, plan, plan_with, report};
 use crate::print;
 use board::entries::Entries;

@@ -1,4 +1,5 @@
-// Makes a run, and prints its calls with what they answered.
+// Makes a run, and prints its calls with what they answered, in words of these tests where no `Display` of a call or an answer has them. The
+// runtime, a name, a network and its calls are arguments by themselves: each case has others.
 use crate::lent::{ALL, Memory};
 use board::entries::Entries;
 use network::{Network, Office};
@@ -8,7 +9,7 @@ use std::{fmt, io};
 use table::Table;
 use tally::Call;
 
-// Takes the first so many entries off a slice, as far as there are so many.
+// Takes the first so many entries off a slice, as far as there are so many. `split_off` would take nothing where there are fewer.
 fn take<'a, T>(slice: &mut &'a [T], count: usize) -> &'a [T] {
     let taken = first(slice, count);
     *slice = &slice[taken.len()..];

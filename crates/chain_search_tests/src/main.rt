@@ -55,7 +55,7 @@ impl Searching for OverChains {
     }
 }
 
-// Links, each as the one forth and the one back: 0 where there is none.
+// Links, each as the one forth and the one back. Of the links that are printed each has both, so 0 stands in no line.
 fn print_links(rt: &HostRuntime, links: &[Links]) -> io::Result<()> {
     for link in links {
         let forth = link.forth.unwrap_or(0);

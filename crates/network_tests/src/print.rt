@@ -1,4 +1,5 @@
-// Prints what a network answers.
+// Prints what a network answers, in words of these tests: legs and balances have no `Display`, since no program prints them so. The
+// runtime and a network go through all of them: a struct of the two would be a printer of one borrow.
 use network::Network;
 use records::{Leg, Refusal};
 use std::{fmt, io};

@@ -1,4 +1,4 @@
-// Tables on lent records.
+// Tables on lent records. They borrow them, so whoever makes one copies the records and makes it beside them.
 use crate::calls;
 use crate::calls::Call;
 use crate::print::{self, Found};
@@ -8,7 +8,7 @@ use samples::worked::{FROM_1, PAST_1, TO_1, leg, station};
 use std::io;
 use table::Table;
 
-// Three stations with three legs, of which one is shut.
+// Three stations with three legs, of which one is shut: by its field, since a constant calls no function.
 pub const LEGS: [Leg; 3] = [
     TO_1,
     Leg {

@@ -3,7 +3,8 @@ use records::{Leg, Station};
 use samples::Generator;
 use samples::worked::leg;
 
-// A leg between different ones of at least two stations. Its capacity and its charge stay below their bounds.
+// A leg between different ones of at least two stations. Its capacity and its charge stay below their bounds. Three numbers and no struct:
+// one caller has them in a recipe with others, the other draws one and states two.
 pub(crate) fn draw_leg(
     generator: &mut Generator,
     stations: u16,

@@ -52,7 +52,8 @@ const STATION_ENTRIES: usize = 241;
 // No table is lent with more entries for legs.
 const LEG_ENTRIES: usize = 3001;
 
-// The slices and the desk, all filled with something that no planning may read.
+// The slices and the desk, all filled with something that no planning may read. What is lent to a run of a board is another struct, in the
+// tests of boards: the two share prices and a desk, but a run has answers and a sheet of memory, and a planning is lent parts of tables.
 #[derive(Drop)]
 pub struct Lent {
     pub prices: Vec<i64>,
@@ -61,7 +62,8 @@ pub struct Lent {
     sizes: Sizes,
 }
 
-// The first entries of a table, at most so many, to be written.
+// The first entries of a table, at most so many, to be written: `slices::first` for writing. It stands in the test, since beside these
+// seven tables one slice alone, in `prices`, is cut so.
 fn first_mut<T>(table: &mut [T], entries: usize) -> &mut [T] {
     let count = entries.min(table.len());
     &mut table[..count]

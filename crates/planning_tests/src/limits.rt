@@ -162,30 +162,14 @@ const BALANCED: [(&str, [i32; 2]); 8] = [
 pub(crate) fn slices(rt: &HostRuntime) -> io::Result<()> {
     for (prices, cut) in SLICES {
         println!(rt; "{prices} prices, a cut of {cut}")?;
-        print::on_table(
-            rt,
-            "T",
-            &T,
-            &STATIONS,
-            &[],
-            Sizes {
-                prices,
-                cut,
-                ..Sizes::THREE
-            },
-        )?;
-        print::on_table(
-            rt,
-            "5 bikes",
-            &[TO_1],
-            &[5, -5, 0].map(station),
-            &[],
-            Sizes {
-                prices,
-                cut,
-                ..Sizes::THREE
-            },
-        )?;
+        let sizes = Sizes {
+            prices,
+            cut,
+            ..Sizes::THREE
+        };
+        print::on_table(rt, "T", &T, &STATIONS, &[], sizes)?;
+        let balances = [5, -5, 0].map(station);
+        print::on_table(rt, "5 bikes", &[TO_1], &balances, &[], sizes)?;
     }
     Ok(())
 }

@@ -1,4 +1,5 @@
-// Plans, and prints what the planning answers and leaves.
+// Plans, and prints what the planning answers and leaves, in words of these tests: a planning answers a tuple, which has no `Display`. The
+// runtime, a name and what is planned on are arguments by themselves: each case has others.
 use crate::lent::{Lent, Sizes};
 use network::Network;
 use records::{Leg, Refusal, Station};

@@ -2,9 +2,9 @@
 use crate::drawing::{add, draw_leg};
 use crate::lent::{Lent, Sizes};
 use crate::rules;
-use crate::verdicts::{is_sound, names_cut, sum_of};
+use crate::verdicts::Planned;
 use network::Network;
-use records::{Leg, Refusal, Station};
+use records::{Leg, Station};
 use samples::Generator;
 use samples::worked::shut;
 use std::alloc::{AllocError, Global};
@@ -25,7 +25,8 @@ struct Drawn {
     standing: Vec<u16>,
 }
 
-// What came of all networks.
+// What came of all networks. Each number is added to by itself: they count different things, and a sum is held at its type's end, since
+// nothing bounds what is added.
 #[derive(Default, Drop)]
 struct Tally {
     planned: usize,
@@ -42,6 +43,7 @@ fn draw(heap: Global, generator: &mut Generator) -> Result<Drawn, AllocError> {
     let count = 2 + generator.below(3);
     let mut stations = vec![in heap; Station::default(); usize::from(count)]?;
     let mut legs = Vec::new(heap);
+    // counted, since each turn draws on what the generator has come to, and adds to balances
     for _ in 0..1 + generator.below(5) {
         let leg = draw_leg(generator, count, 3, 4);
         let bikes = i32::from(generator.below(3).min(generator.below(3)));
@@ -80,27 +82,18 @@ fn best<N: Network>(net: &N, standing: &[u16]) -> Option<(u64, u64)> {
 
 impl Tally {
     // Enters one planning, and says whether it agrees with all plans that there are.
-    fn enter<N: Network>(
-        &mut self,
-        net: &N,
-        standing: &[u16],
-        lent: &Lent,
-        answer: Result<(u64, u64), Refusal>,
-    ) -> bool {
-        let agrees = match (answer, best(net, standing)) {
-            (Ok(weight), Some(least)) => {
-                weight == least && is_sound(net, standing, lent, weight)
-            }
-            (Err(refusal), None) => names_cut(net, lent, refusal),
+    fn enter<N: Network>(&mut self, planned: &Planned<'_, N>) -> bool {
+        let agrees = match (planned.answer, best(planned.net, planned.standing)) {
+            (Ok(weight), Some(least)) => weight == least && planned.is_sound(weight),
+            (Err(refusal), None) => planned.names_cut(refusal),
             _ => false,
         };
-        match answer {
+        match planned.answer {
             Ok((cents, difference)) => {
-                let prices = sum_of(lent.prices.as_slice(), net.stations());
                 self.planned = self.planned.saturating_add(1);
                 self.cents = self.cents.saturating_add(cents);
                 self.difference = self.difference.saturating_add(difference);
-                self.prices = self.prices.saturating_add(prices);
+                self.prices = self.prices.saturating_add(planned.prices());
             }
             Err(_) => self.refused = self.refused.saturating_add(1),
         }
@@ -111,7 +104,8 @@ impl Tally {
     }
 }
 
-// Draws and plans, and prints the sums. The turns are counted, since each draws on what the generator has come to. A network on which planning and all plans disagree is named.
+// Draws and plans, and prints the sums. A network on which planning and all plans disagree is named. The turns are counted, since each
+// draws on what the generator has come to.
 pub(crate) fn all(rt: &HostRuntime) -> io::Result<()> {
     let mut generator = Generator::new(1);
     let mut lent = Lent::new(rt.alloc(), Sizes::ALL)?;
@@ -126,8 +120,8 @@ pub(crate) fn all(rt: &HostRuntime) -> io::Result<()> {
             legs: legs.as_mut_slice(),
             stations: stations.as_mut_slice(),
         };
-        let answer = lent.plan(&table, standing.as_slice());
-        if !tally.enter(&table, standing.as_slice(), &lent, answer) {
+        let planned = Planned::new(&table, standing.as_slice(), &mut lent);
+        if !tally.enter(&planned) {
             println!(rt; "random network {number} disagrees")?;
         }
     }

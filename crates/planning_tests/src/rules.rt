@@ -1,4 +1,5 @@
-// The rules of plans, prices and cuts, looked at leg by leg and station by station.
+// The rules of plans, prices and cuts, looked at leg by leg and station by station. Network and plan by themselves: read anew, by no
+// struct of the planner.
 use network::Network;
 use records::{Leg, Mark};
 
@@ -10,7 +11,7 @@ fn capacity_in_force(leg: Leg) -> u16 {
     }
 }
 
-// An entry of a list, zero beyond it.
+// An entry of a list, zero beyond it: anew, too.
 fn entry<T: Copy + Default>(entries: &[T], place: usize) -> T {
     entries.get(place).copied().unwrap_or_default()
 }

@@ -1,9 +1,9 @@
 // Large networks, drawn from seeds and handed on as texts. What they cost comes from another solver.
 use crate::drawing::{add, draw_leg};
 use crate::lent::{Lent, Sizes};
-use crate::verdicts::{is_sound, names_cut, sum_of};
+use crate::verdicts::Planned;
 use network::Network;
-use records::{Leg, MOST_LEGS, MOST_REPORTED, MOST_STATIONS, Refusal, Station};
+use records::{Leg, MOST_LEGS, MOST_REPORTED, MOST_STATIONS, Station};
 use samples::Generator;
 use std::alloc::{AllocError, Global};
 use std::io;
@@ -117,7 +117,8 @@ const RECIPES: [Recipe; 10] = [
     },
 ];
 
-// Whether bikes may be added to a balance, which a text keeps within its limit.
+// Whether bikes may be added to a balance, which a text keeps within its limit. Asked here by itself: the test judges by no function of a
+// reader.
 fn takes(stations: &[Station], station: u16, bikes: i32) -> bool {
     stations.get(usize::from(station)).is_some_and(
         |station| (-MOST_REPORTED..=MOST_REPORTED).contains(&station.balance.saturating_add(bikes)),
@@ -159,23 +160,17 @@ fn text_of(heap: Global, recipe: Recipe, seed: u64) -> Result<String, AllocError
     network_text(heap, stations.as_slice(), legs.as_slice())
 }
 
-// What the planning of a text came to.
-fn planned<N: Network>(
-    rt: &HostRuntime,
-    name: &str,
-    net: &N,
-    lent: &Lent,
-    answer: Result<(u64, u64), Refusal>,
-) -> io::Result<()> {
-    match answer {
+// What the planning of a text came to. A refusal is printed by its number alone: which cut is named is open, and with it the place.
+fn print<N: Network>(rt: &HostRuntime, name: &str, planned: &Planned<'_, N>) -> io::Result<()> {
+    match planned.answer {
         Ok((cents, difference)) => {
-            let sound = is_sound(net, &[], lent, (cents, difference));
-            let prices = sum_of(lent.prices.as_slice(), net.stations());
+            let sound = planned.is_sound((cents, difference));
+            let prices = planned.prices();
             println!(rt; "text {name} cents {cents}")?;
             println!(rt; "  difference {difference}, prices {prices} in all, sound {sound}")
         }
         Err(refusal) => {
-            let cut = names_cut(net, lent, refusal);
+            let cut = planned.names_cut(refusal);
             println!(rt; "text {name} refused {}", refusal.number())?;
             println!(rt; "  with a cut {cut}")
         }
@@ -188,18 +183,18 @@ fn read(rt: &HostRuntime, name: &str, text: &[u8], lent: &mut Lent) -> io::Resul
     let mut stations = vec![in rt.alloc(); Station::default(); MOST_STATIONS]?;
     match read_table(text, legs.as_mut_slice(), stations.as_mut_slice()) {
         Ok(table) => {
-            let answer = lent.plan(&table, &[]);
-            planned(rt, name, &table, lent, answer)
+            let planned = Planned::new(&table, &[], lent);
+            print(rt, name, &planned)
         }
-        Err(refusal) => println!(rt; "text {name} not read {}", refusal.number()),
+        Err(refusal) => println!(rt; "text {name} not read: {refusal}"),
     }
 }
 
 // Plans on every text.
 pub(crate) fn all(rt: &HostRuntime) -> io::Result<()> {
     let mut lent = Lent::new(rt.alloc(), Sizes::ALL)?;
-    for (number, recipe) in RECIPES.iter().enumerate() {
-        let text = text_of(rt.alloc(), *recipe, number as u64)?;
+    for (seed, recipe) in (0..).zip(RECIPES) {
+        let text = text_of(rt.alloc(), recipe, seed)?;
         read(rt, recipe.name, text.as_bytes(), &mut lent)?;
     }
     Ok(())

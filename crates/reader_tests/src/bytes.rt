@@ -1,4 +1,4 @@
-// Every byte in one place of a text.
+// Every byte in one place of a text. The runtime, a name and a text are arguments by themselves, here and below: each case has others.
 use crate::cases::Frame;
 use crate::print::Answered;
 use reader::read;
@@ -26,7 +26,7 @@ fn answers(heap: Global, frame: &Frame) -> Result<Vec<Answer>, AllocError> {
         .try_collect(heap)
 }
 
-// The number of the refusal, where the text is refused.
+// The number of the refusal, where the text is refused: answers are counted by it, whatever their places.
 fn number_of(answer: Answer) -> Option<u8> {
     answer.err().map(|refusal| refusal.number())
 }
@@ -47,7 +47,7 @@ fn tally(rt: &HostRuntime, name: &str, answers: &[Answer]) -> io::Result<()> {
     println!(rt; "")
 }
 
-// Counts the answers, and prints those that are another than that the form is wrong.
+// Counts the answers, and prints those that are another than that the form is wrong. The frame is made here, once for all calls.
 fn list(
     rt: &HostRuntime,
     name: &str,
@@ -57,7 +57,7 @@ fn list(
     let answers = answers(rt.alloc(), &Frame::new(before, behind))?;
     tally(rt, name, answers.as_slice())?;
     for (byte, answer) in answers.iter().enumerate() {
-        if number_of(*answer) != Some(2) {
+        if !matches!(answer, Err(Refusal::LineOutOfForm { .. })) {
             println!(rt; "  {byte} {}", Answered(*answer))?;
         }
     }

@@ -70,6 +70,7 @@ pub(crate) fn read_into(rt: &HostRuntime, text: &[u8], room: Room, shown: bool) 
     let mut stations = vec![in rt.alloc(); USED_STATION; room.stations]?;
     let answer = read(text, legs.as_mut_slice(), stations.as_mut_slice());
     print!(rt; "{}", Answered(answer))?;
+    // where the text is refused no record is of a network, so that all have to be cleared
     let Header { nodes, arcs } = answer.unwrap_or(Header { nodes: 0, arcs: 0 });
     let (read_legs, other_legs) = legs.as_slice().split_at(arcs.min(room.legs));
     let (read_stations, other_stations) = stations.as_slice().split_at(nodes.min(room.stations));
@@ -96,7 +97,7 @@ pub(crate) fn between(rt: &HostRuntime, frame: &Frame, lines: &[&str]) -> io::Re
     Ok(())
 }
 
-// Reads each text under its name.
+// Reads each text under its name, and prints its network if `shown`.
 pub(crate) fn named(rt: &HostRuntime, texts: &[(&str, &str)], shown: bool) -> io::Result<()> {
     for (name, text) in texts {
         print!(rt; "{name}: ")?;

@@ -1,5 +1,7 @@
 // Reads texts that are built here, and prints what each reading answers and leaves in the tables.
 // The lines are compared with the file `stdout`.
+// Numbers in texts are spelled out, on both sides of every limit. What has to be as long or as large as a limit (tables, padding, a
+// whole network) takes its constant: contracts spell that number out, so an edit of the constant fails a proof.
 #![tactic(auto)]
 
 mod bytes;

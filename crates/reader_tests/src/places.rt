@@ -6,7 +6,7 @@ use reader::Reader;
 use records::{MOST_TEXT, Refusal};
 use std::{fmt, io};
 
-// What taking a line answered, as it is printed.
+// What taking a line answered, as it is printed: in words of this test, since a line has no `Display`.
 #[derive(Clone, Copy)]
 struct Taken(Result<Option<Line>, Refusal>);
 

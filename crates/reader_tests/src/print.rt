@@ -1,4 +1,5 @@
-// Prints what a reading answers, and what tables hold.
+// Prints what a reading answers, and what tables hold, in words of these tests: headers and records have no `Display`, since no
+// program prints them so.
 use records::{Leg, Refusal, Station};
 use std::{fmt, io};
 use text_rules::Header;
@@ -16,7 +17,7 @@ impl fmt::Display for Answered {
     }
 }
 
-// The balances of the stations, in words of these tests.
+// The balances of the stations.
 pub(crate) fn stations(rt: &HostRuntime, stations: &[Station]) -> io::Result<()> {
     print!(rt; ", balances")?;
     for station in stations {
@@ -26,7 +27,7 @@ pub(crate) fn stations(rt: &HostRuntime, stations: &[Station]) -> io::Result<()>
     Ok(())
 }
 
-// The fields of the legs, in words of these tests: records have no `Display`.
+// The fields of the legs.
 pub(crate) fn legs(rt: &HostRuntime, legs: &[Leg]) -> io::Result<()> {
     for leg in legs {
         let Leg {

@@ -4,7 +4,8 @@ use records::{MOST_LEGS, MOST_STATIONS};
 use std::io;
 use text_rules::Room;
 
-// Reads a text into tables of each room: the stations first, then the legs.
+// Reads a text into tables of each room: the stations first, then the legs. Pairs and no `Room`s, so that a list of rooms is read at a
+// glance.
 fn into_each(rt: &HostRuntime, name: &str, text: &str, rooms: &[(usize, usize)]) -> io::Result<()> {
     for &(stations, legs) in rooms {
         print!(rt; "{name} into {stations} and {legs}: ")?;

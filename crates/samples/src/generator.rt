@@ -1,4 +1,5 @@
-// Numbers drawn in a fixed order from a seed, by a linear congruence.
+// Numbers drawn in a fixed order from a seed, by a linear congruence: one of a few lines, so that what works out the expected lines in
+// another language draws the same.
 ghost use Rattle.std.specs.Prelude.{◌≡◌, ◌<◌, max};
 ghost use Rattle.samples.specs.Drawing.{advanced, drawn};
 
@@ -15,7 +16,7 @@ impl Generator {
         Generator { state: seed }
     }
 
-    // The next number below a bound; a bound of 0 is taken as 1.
+    // The next number below a bound; a bound of 0 is taken as 1. Cast: no `From` narrows, and what is left of 65,536 fits.
     pub fn below(&mut self, bound: u16) -> u16
         ensures advances { self.new.state ≡ advanced self.old.state }
         ensures draws { result ≡ drawn self.new.state (max bound 1) }

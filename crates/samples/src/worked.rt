@@ -1,4 +1,5 @@
-// Networks of three stations, with 4 bikes to bring from the first to the last.
+// Networks of three stations, with 4 bikes to bring from the first to the last. Records alone: a table borrows them, so whoever makes
+// one copies the records and makes it beside them.
 ghost use Rattle.std.specs.Prelude.{◌≡◌};
 ghost use Rattle.records.specs.declared.leg.Mark.TheVariants.{Open, Shut};
 

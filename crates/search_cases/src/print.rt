@@ -1,4 +1,5 @@
-// Prints labels, prices and what calls answer.
+// Prints labels, prices and what calls answer, in words of these tests: whether there is an arrival, and whether prices were written, is
+// said by no `Display`.
 use records::Refusal;
 use search::{Label, Outcome};
 use std::fmt::Display;
