@@ -1,4 +1,4 @@
-"""What both fuzzing scripts share: many runs of a program side by side, their sum, and a report of what differs."""
+"""What the fuzzing scripts share: many runs of a program side by side, their sum, and a report of what differs."""
 
 import collections
 import concurrent.futures

@@ -1,0 +1,4 @@
+pub mod Shown
+pub mod Rooms
+pub mod Memories
+pub mod Running

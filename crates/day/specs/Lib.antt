@@ -1,0 +1,4 @@
+pub mod Lines
+pub mod Rests
+pub mod Memories
+pub mod Days
