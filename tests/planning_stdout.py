@@ -13,6 +13,9 @@ The cents of the texts come from GLPK, from its solver of linear programs:
 The line `s` of SOLUTION ends in the cents. Where there is no plan, it says that there is no feasible solution. The lines in the
 stored file were made with GLPSOL 5.0 (Debian's package glpk-utils 5.0-1). The model above plans the texts,
 too, and has to come to the same cents; the difference and the prices are its own.
+
+Whatever a planning guesses to begin with, it has to come to the same: the same answer and prices, and some plan or some cut that
+goes by the rules. So every other guess is expected to agree with the planning that is printed.
 """
 
 import itertools
@@ -23,6 +26,9 @@ import tempfile
 CHARGE = 1 << 30  # what a cent counts next to a bike of difference
 FEW = 100_000  # so many plans are all weighed
 UNTOUCHED = 77
+# the guesses beside the planner's own, whose plannings are printed
+OTHERS = ["no guess", "junk", "the simplex without a pivot", "the simplex after 1 pivot"]
+OTHERS += ["the simplex after %d pivots" % pivots for pivots in (5, 50, 200)]
 
 
 class Leg:
@@ -185,6 +191,11 @@ def show(name, legs, balances, standing=(), **sizes):
         print("%s: refused %d %d" % (name, *refused))
     print("  prices %s" % prices)
     print("  cut %s" % cut)
+    by_others()
+
+
+def by_others():
+    print("  the same by %d other guesses" % len(OTHERS))
 
 
 BALANCES = [4, 0, -4]
@@ -224,10 +235,13 @@ def limits():
         print("%d prices, a cut of %d" % (prices, cut))
         show("T", T, BALANCES, prices=prices, cut=cut)
         show("5 bikes", [TO_1], [5, -5, 0], prices=prices, cut=cut)
-    show("2,999 amounts", T, BALANCES, by_leg=2999)
-    for name in "labels", "labels in cents", "heads", "left", "marks":
-        show("239 " + name, T, BALANCES, by_station=239)
-    show("2,999 nexts", T, BALANCES, by_leg=2999)
+    by_leg = "amounts", "lower arcs", "upper arcs", "nexts"
+    for name in (
+        "amounts", "left", "potentials", "lower arcs", "upper arcs", "nodes", "folded potentials", "best arcs",
+        "labels", "labels in cents", "heads", "nexts", "heap", "places", "marks",
+    ):
+        print("one entry less in %s" % name)
+        show("T", T, BALANCES, **({"by_leg": 2999} if name in by_leg else {"by_station": 239}))
     show("one more of each", T, BALANCES, by_station=241, by_leg=3001)
     for name, changes in [
         ("the largest leg", dict()),
@@ -305,8 +319,9 @@ def random_networks():
         cents += c
         difference += d
         prices += sum(prices_of(legs, len(balances), plan))
-    print("random networks: %d with a plan, %d without, %d agree" % (planned, refused, planned + refused))
-    print("  %d cents, difference %d, prices %d in all" % (cents, difference, prices))
+    for name in ["the planner's own guess"] + OTHERS:
+        print("random networks by %s: %d with a plan, %d without, %d agree" % (name, planned, refused, planned + refused))
+        print("  %d cents, difference %d, prices %d in all" % (cents, difference, prices))
 
 
 # name, stations, legs, capacities, charges, one in so many legs carries, more bikes from station 0 to 1
@@ -371,6 +386,7 @@ def texts():
             assert is_cut(legs, balances, cut)
             print("text %s refused 15" % name)
             print("  with a cut true")
+            by_others()
             continue
         assert obeys(legs, balances, plan)
         total, difference = weigh(legs, [], plan)
@@ -378,6 +394,7 @@ def texts():
         prices = sum(prices_of(legs, len(balances), plan))
         print("text %s cents %d" % (name, cents))
         print("  difference %d, prices %d in all, sound true" % (difference, prices))
+        by_others()
 
 
 if __name__ == "__main__":

@@ -10,7 +10,7 @@ use Rattle.tally.specs.declared.answer.Answer.{Answer}
 use Rattle.tally.specs.declared.call.Call.{Call}
 use Rattle.tally.proofs.Growing.{sum_in, longer, run_more, beyond_call, run_none, beyond_none}
 use Rattle.tally.proofs.Keeping.{legs_same}
-use Rattle.planning.specs.Planned.{SameTables}
+use Rattle.planning.specs.Tables.{SameTables}
 use Rattle.planning.specs.declared.tables.Tables.{Tables}
 use Rattle.plans.proofs.Lending.{same_slice, slice_twice}
 use Rattle.board.specs.Running.{lending, lent_by, given, SameSheet, HasRoom, Fits, Moves, MadeAll}
@@ -124,4 +124,23 @@ sheet_twice p q = record { prices = slice_twice p.prices q.prices; numbers = sli
 
 pub given_stays : {s s' : Sheet} {t t' : Tables} → SameSheet s s' → SameTables t t' → given (lent_by s') t' ≡ given (lent_by s) t
 given_stays {s} {s'} {t} {t'} p q =
-    rw (p.prices.long, p.numbers.long, p.amounts.long, q.draft.amounts.long, q.draft.left.long, q.labels.long, q.cents.long, q.chains.heads.long, q.chains.nexts.long, q.marks.long) refl
+    rw (
+      p.prices.long,
+      p.numbers.long,
+      p.amounts.long,
+      q.draft.amounts.long,
+      q.draft.left.long,
+      q.potentials.long,
+      q.simplex.lower.long,
+      q.simplex.upper.long,
+      q.simplex.nodes.long,
+      q.simplex.potentials.long,
+      q.simplex.best.long,
+      q.marks.long,
+      q.labels.long,
+      q.cents.long,
+      q.chains.heads.long,
+      q.chains.nexts.long,
+      q.queue.heap.long,
+      q.queue.places.long,
+    ) refl

@@ -19,8 +19,8 @@ use Rattle.std.specs.Prelude.{◌≡◌, ℕ, ◌+◌, ◌<◌, ◌≤◌, ◌�
 use Rattle.records.specs.declared.refusal.Refusal.{Refusal}
 use Rattle.records.specs.declared.refusal.Refusal.TheVariants.{SliceTooShort}
 use Rattle.plans.specs.Slices.{SameSlice}
-use Rattle.checks.specs.declared.lengths.Lengths.{Lengths}
-use Rattle.planning.specs.Planned.{SameTables, lengths_of}
+use Rattle.planning_rules.specs.declared.lengths.Lengths.{Lengths}
+use Rattle.planning.specs.Tables.{SameTables, lengths_of}
 use Rattle.planning.specs.declared.tables.Tables.{Tables}
 use Rattle.tally.specs.Tallies.{Tally}
 use Rattle.tally.specs.Runs.{Lent, call_at, prices_long, numbers_long, amounts_long, from, Beyond, Run, Sound, WholeRun}

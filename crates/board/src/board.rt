@@ -1,6 +1,6 @@
 // The calls of a board. Its memory is its own, for the largest network, so no call asks for more.
 ghost use Rattle.std.specs.Prelude.{◌≡◌, List, length, ℤ};
-ghost use Rattle.planning.specs.Planned.{SameTables, lengths_of};
+ghost use Rattle.planning.specs.Tables.{SameTables, lengths_of};
 ghost use Rattle.tally.specs.Answers.{done, listed, planned};
 ghost use Rattle.tally.specs.Follows.{Follows, Papers, papers};
 ghost use Rattle.tally.specs.Tallies.{fresh};

@@ -3,7 +3,7 @@
 ghost use Rattle.std.specs.Prelude.{◌≡◌, length, Decides, MatchOption};
 ghost use Rattle.board.specs.Running.{Fits, Left, TooFew, entries, of_lengths};
 
-use checks::Lengths;
+use planning_rules::Lengths;
 use tally::Call;
 
 // Entries for prices, for cuts and lists, for the amounts of new plans, and of the working tables

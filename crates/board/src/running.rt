@@ -1,7 +1,7 @@
 // Runs of calls: each call is made in its turn, with slices out of memory that is lent for the whole run. A sheet and the tables are
 // handed on apart: of the sheet each call gets a part, the tables serve every call.
 ghost use Rattle.std.specs.Prelude.{◌≡◌, ◌≤◌, length};
-ghost use Rattle.planning.specs.Planned.{SameTables, lengths_of};
+ghost use Rattle.planning.specs.Tables.{SameTables, lengths_of};
 ghost use Rattle.tally.specs.Follows.{Follows, papers};
 ghost use Rattle.tally.specs.Runs.{HandsOut, Makes};
 ghost use Rattle.tally.specs.Tallies.{fresh};

@@ -1,5 +1,5 @@
 // Calls, as the runs list them.
-use checks::Lengths;
+use planning_rules::Lengths;
 use records::{MOST_LEGS, MOST_STATIONS};
 use tally::Call;
 

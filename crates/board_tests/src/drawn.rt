@@ -1,7 +1,7 @@
 // Long runs of calls of all sorts, drawn in a fixed order.
 use crate::calls::{least, plan_with, report};
 use crate::print;
-use checks::Lengths;
+use planning_rules::Lengths;
 use promenade::Promenade;
 use records::{Leg, Station};
 use samples::Generator;

@@ -1,12 +1,12 @@
 // The memory that is lent to a run, all filled with something that no call may read.
 use board::entries::Entries;
 use board::{Sheet, run};
-use desk::Desk;
 use network::Office;
+use poison::{UNTOUCHED, poison};
 use records::{MOST_LEGS, MOST_STATIONS, Refusal};
 use std::alloc::{AllocError, Global};
-use stray::{UNTOUCHED, strew};
 use tally::{Answer, Call};
+use workspace::Workspace;
 
 // More than any run here takes.
 pub const ALL: Entries = Entries {
@@ -25,7 +25,7 @@ pub struct Memory {
     pub prices: Vec<i64>,
     pub numbers: Vec<usize>,
     pub amounts: Vec<u16>,
-    desk: Desk,
+    workspace: Workspace,
 }
 
 impl Memory {
@@ -38,14 +38,14 @@ impl Memory {
             prices: vec![in heap; i64::from(UNTOUCHED); lent.prices]?,
             numbers: vec![in heap; usize::from(UNTOUCHED); lent.numbers]?,
             amounts: vec![in heap; u16::from(UNTOUCHED); lent.amounts]?,
-            desk: Desk::new(heap, lent.stations, lent.legs)?,
+            workspace: Workspace::new(heap, lent.stations, lent.legs)?,
         })
     }
 
     // Makes the calls on a new board.
     pub(crate) fn run<N: Office + Drop>(&mut self, net: N, calls: &[Call]) -> Result<(), Refusal> {
-        let mut tables = self.desk.lend();
-        strew(&mut tables);
+        let mut tables = self.workspace.lend();
+        poison(&mut tables);
         let mut sheet = Sheet {
             prices: self.prices.as_mut_slice(),
             numbers: self.numbers.as_mut_slice(),

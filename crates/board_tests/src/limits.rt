@@ -3,7 +3,7 @@
 use crate::calls::{least, plan, plan_with, report};
 use crate::print;
 use board::entries::Entries;
-use checks::Lengths;
+use planning_rules::Lengths;
 use records::{MOST_BALANCE, MOST_CAPACITY, MOST_LEGS, MOST_STATIONS, Mark};
 use samples::worked::{STATIONS, T};
 use std::io;

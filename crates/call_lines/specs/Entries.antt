@@ -9,7 +9,7 @@ use Rattle.std.specs.Prelude.{◌≡◌, ℕ, ◌≤◌, ◌⊎◌, List, [], �
 use Rattle.std.specs.List.{filter_map}
 use Rattle.network.specs.Nets.{Net}
 use Rattle.text_rules.specs.Rows.{first_row, behind}
-use Rattle.checks.specs.declared.lengths.Lengths.{Lengths}
+use Rattle.planning_rules.specs.declared.lengths.Lengths.{Lengths}
 use Rattle.tally.specs.Texts.{call_text}
 use Rattle.tally.specs.declared.call.Call.{Call}
 use Rattle.tally.specs.declared.call.Call.TheVariants.{Plan, ListStations, ListRuns}

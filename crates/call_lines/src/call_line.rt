@@ -2,12 +2,12 @@
 ghost use Rattle.std.specs.Prelude.{◌≡◌, ℕ, ◌^◌, ◌<◌, ◌++◌, List, ◌∷◌, ℤ, IfOk, MatchOption, Some, FitsSigned};
 ghost use Rattle.std.specs.Fmt.{decimal, signed_decimal};
 ghost use Rattle.std.specs.Int.{w32};
-ghost use Rattle.checks.specs.declared.lengths.Lengths.{Lengths as LengthsOf};
+ghost use Rattle.planning_rules.specs.declared.lengths.Lengths.{Lengths as LengthsOf};
 ghost use Rattle.tally.specs.Texts.{call_text};
 ghost use Rattle.tally.specs.declared.call.Call.TheVariants.{Report};
 ghost use Rattle.call_lines.specs.Calls.{Begins, InTypes, NoCall, lengths_text, long, numbers_of, word_of};
 
-use checks::Lengths;
+use planning_rules::Lengths;
 use std::alloc::{AllocError, Global};
 use std::str;
 use tally::Call;

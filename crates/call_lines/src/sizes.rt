@@ -3,8 +3,8 @@ ghost use Rattle.std.specs.Prelude.{◌≡◌};
 ghost use Rattle.tally.specs.declared.call.Call.TheVariants.{Plan};
 ghost use Rattle.call_lines.specs.Entries.{just_long, sizes_of};
 
-use checks::Lengths;
 use network::Network;
+use planning_rules::Lengths;
 use records::{MOST_LEGS, MOST_STATIONS};
 use tally::Call;
 

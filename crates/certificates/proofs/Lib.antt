@@ -1,5 +1,5 @@
 pub mod Kept
 pub mod Moved
 pub mod Raised
-pub mod Starting
+pub mod Mending
 pub mod Balanced

@@ -7,13 +7,15 @@
 --   NoRoundTrip            a certificate excludes round trips that total below zero, in pairs of cents and bikes
 --   LabelsExtend           where there is a certificate, labels that no step undercuts on the reached stations, which no step leaves,
 --                          are part of one
---   FirstIsCertified       the plan to start from fits, and the potential that is zero everywhere certifies it
+--   MendedIsCertified      the plan made of a guess and a potential fits, and the potential certifies it
+--   MendKeepsCertified     amounts that fit and that the potential certifies stay as they were guessed
+--   LevelMendIsFirst       by the potential that is zero everywhere, each guess is mended to the plan to start from
 --   NothingLeftObeys       a plan that fits and leaves nothing over obeys
 --   BalancesTotal          the sum of the balances by number is that of their list
 --   LeftOversSum           where legs join stations, what a plan that fits leaves over sums to what the balances sum to
 --   NoneOverObeys          where legs join stations and the balances sum to 0, a plan that fits and leaves no bikes over
 --                          anywhere obeys
-use Rattle.std.specs.Prelude.{◌≡◌, ℕ, ◌+◌, ◌<◌, ◌≤◌, Bool, true, List, length, ℤ, pos, ◌+ℤ◌, ◌≤ℤ◌, fold, ◌≢◌}
+use Rattle.std.specs.Prelude.{◌≡◌, ℕ, ◌+◌, ◌<◌, ◌≤◌, Bool, true, List, length, ℤ, pos, ◌+ℤ◌, ◌≤ℤ◌, fold, ◌≢◌, ◌↔◌}
 use Rattle.network.specs.Nets.{Net}
 use Rattle.plans.specs.Plans.{stations, leg_at, amount, balance_at, Fits, Obeys, EndsBelow}
 use Rattle.plans.specs.declared.direction.Direction.{Direction}
@@ -21,7 +23,8 @@ use Rattle.plans.specs.Residuals.{Joined, tail, head, residual, step_both, BothS
 use Rattle.plans.specs.Prices.{BothRoundTrip}
 use Rattle.plans.specs.Cuts.{left_over}
 use Rattle.certificates.specs.Pushes.{shifted, SendsAlong, room_over, Sent}
-use Rattle.certificates.specs.Starts.{First, first_plan, level}
+use Rattle.certificates.specs.Starts.{First, level}
+use Rattle.certificates.specs.Mends.{Mended, mended_plan}
 use Rattle.certificates.specs.Totals.{total_below, all_over}
 
 abbrev pub PushKeepsCertificate : Type 0
@@ -65,8 +68,19 @@ LabelsExtend =
     → (π' : ℕ → ℤ × ℤ) × Certifies net standing plan π' × ((v : ℕ) → r v ≡ true → π' v ≡ d v)
 
 -- the list is such a plan; then what holds of every such plan
-abbrev pub FirstIsCertified : Type 0
-FirstIsCertified = (net : Net) (standing : List ℕ) → First net standing (first_plan net standing) × ((plan : List ℕ) → First net standing plan → Fits net plan × Certifies net standing plan level)
+abbrev pub MendedIsCertified : Type 0
+MendedIsCertified =
+    (net : Net) (standing guess : List ℕ) (π : ℕ → ℤ × ℤ)
+    → Mended net standing guess π (mended_plan net standing guess π) × ((plan : List ℕ) → Mended net standing guess π plan → Fits net plan × Certifies net standing plan π)
+
+-- on a leg with an end that is no station, which gives no step, the guessed amount may change
+abbrev pub MendKeepsCertified : Type 0
+MendKeepsCertified =
+    (net : Net) (standing guess plan : List ℕ) (π : ℕ → ℤ × ℤ) → Fits net guess → Certifies net standing guess π → Mended net standing guess π plan
+    → (k : ℕ) → Joined net k → amount plan k ≡ amount guess k
+
+abbrev pub LevelMendIsFirst : Type 0
+LevelMendIsFirst = (net : Net) (standing guess plan : List ℕ) → Mended net standing guess level plan ↔ First net standing plan
 
 abbrev pub NothingLeftObeys : Type 0
 NothingLeftObeys = (net : Net) (plan : List ℕ) → Fits net plan → ((v : ℕ) → v < stations net → left_over net plan v ≡ pos 0) → Obeys net plan

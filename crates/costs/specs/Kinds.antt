@@ -30,7 +30,11 @@ abbrev pub cents_kind : Kind Cents
 cents_kind = record { Member = ℤ; group = whole; worth = λ c. c.0 }
 
 abbrev pub both_kind : Kind CentsThenBikes
-both_kind = record { Member = ℤ × ℤ; group = paired whole whole; worth = λ c. (c.first.0, c.second.0) }
+both_kind = record {
+  Member = ℤ × ℤ;
+  group = paired whole whole;
+  worth = λ c. (c.first.0, c.second.0);
+}
 
 abbrev pub count_text : {K : Type 0} → Count K → List ℕ
 count_text c = signed_decimal c.0

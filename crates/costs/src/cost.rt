@@ -1,33 +1,37 @@
 // What every kind of cost has: a zero, a sum, a negative and an order.
-ghost use Rattle.std.specs.Prelude.{◌≡◌, ℕ, ◌+◌, ◌^◌, ◌≤◌, Decides};
+ghost use Rattle.std.specs.Prelude.{◌≡◌, ℕ, ◌+◌, ◌^◌, ◌≤◌, ◌↔◌, IsTrue};
 
 use theory::Grouped;
 
-// A cost stands for its worth, a member of the ordered group of its kind. Its size says how far its parts are from zero:
-// within 2^40 a sum and a negative are exact. What a number does beyond that is in `Count`; of other kinds nothing is said there.
-// Methods of its own and no `Default`, `Add`, `Neg`, `Ord`: what those promise says nothing of worths.
+/// A kind of cost. A cost stands for its worth, a member of the ordered group of its kind. Its size
+/// says how far its parts are from zero: where costs are within 2^40, their sum and their negatives
+/// are exact. What a number does beyond that is in `Count`; of other kinds nothing is said there.
 pub trait Cost: Grouped + Copy + Drop {
     ghost size: { Self → ℕ };
 
-    // The cost that leaves every cost as it is.
+    /// The cost that leaves every cost as it is.
     fn zero() -> Self
-        ensures { (Self.worth result ≡ Self.group.zero) × (size result ≡ 0) };
+        ensures worth { Self.worth result ≡ Self.group.zero }
+        ensures size { size result ≡ 0 };
 
-    // Both costs together.
+    /// Both costs together, exact where each of them is within 2^40.
     fn sum(self, other: Self) -> Self
-        ensures exact { size self + size other ≤ 2 ^ 40 → (Self.worth result ≡ Self.group.add (Self.worth self) (Self.worth other)) × (size result ≤ size self + size other) };
+        ensures exact { size self ≤ 2 ^ 40 → size other ≤ 2 ^ 40
+            → (Self.worth result ≡ Self.group.add (Self.worth self) (Self.worth other))
+            × (size result ≤ size self + size other) };
 
-    // What sums to zero with the cost.
+    /// What sums to zero with the cost.
     fn negative(self) -> Self
-        ensures exact { size self ≤ 2 ^ 40 → (Self.worth result ≡ Self.group.neg (Self.worth self)) × (size result ≡ size self) };
+        ensures exact { size self ≤ 2 ^ 40
+            → (Self.worth result ≡ Self.group.neg (Self.worth self)) × (size result ≡ size self) };
 
-    // Whether the cost is no more than the other.
+    /// Whether the cost is no more than the other.
     fn at_most(self, other: Self) -> bool
-        ensures { Decides result (Self.group.le (Self.worth self) (Self.worth other)) };
+        ensures { IsTrue result ↔ Self.group.le (Self.worth self) (Self.worth other) };
 
-    // Whether the cost is less than the other.
+    /// Whether the cost is less than the other.
     fn below(self, other: Self) -> bool
-        ensures { Decides result (Self.group.le (Self.worth other) (Self.worth self) → ⊥) }
+        ensures { IsTrue result ↔ ¬ Self.group.le (Self.worth other) (Self.worth self) }
     {
         !other.at_most(self)
     }

@@ -9,12 +9,12 @@ use std::fmt;
 use std::marker::PhantomData;
 use theory::Grouped;
 
-// How many of the kind `K`, below zero, too. Numbers of different kinds are of different types.
+/// How many of the kind `K`, below zero, too. Numbers of different kinds are of different types.
 #[derive(Clone, Copy, PartialEq, Eq, Debug)]
 pub struct Count<K>(pub i64, PhantomData<K>);
 
 impl<K> Count<K> {
-    // That many. No `From`: a call says of which kind the number is.
+    /// That many of the kind.
     pub const fn new(number: i64) -> Count<K>
         ensures { result.0 ≡ number }
     {
@@ -22,7 +22,7 @@ impl<K> Count<K> {
     }
 }
 
-// the number
+/// The number alone.
 impl<K> fmt::Display for Count<K> {
     ghost output = { λ c. Some (count_text c) };
 
@@ -31,7 +31,7 @@ impl<K> fmt::Display for Count<K> {
     }
 }
 
-// The worth is the integer itself.
+/// The worth is the integer itself.
 impl<K> Grouped for Count<K> {
     ghost Member = { ℤ };
 
@@ -47,17 +47,20 @@ impl<K: Copy> Cost for Count<K> {
         Count::new(0)
     }
 
-    // Beyond the range of the number it stops at the nearer limit.
+    /// Beyond the range of the number it stops at the nearer limit.
     fn sum(self, other: Count<K>) -> Count<K>
-        ensures exact { unsigned_abs self.0 + unsigned_abs other.0 ≤ 2 ^ 40 → (result.0 ≡ self.0 +ℤ other.0) × (unsigned_abs result.0 ≤ unsigned_abs self.0 + unsigned_abs other.0) }
+        ensures exact { unsigned_abs self.0 ≤ 2 ^ 40 → unsigned_abs other.0 ≤ 2 ^ 40
+            → (result.0 ≡ self.0 +ℤ other.0)
+            × (unsigned_abs result.0 ≤ unsigned_abs self.0 + unsigned_abs other.0) }
         ensures limited { result.0 ≡ saturate_to_bits 63 (self.0 +ℤ other.0) }
     {
         Count::new(self.0.saturating_add(other.0))
     }
 
-    // The same of a negative.
+    /// Beyond the range of the number it stops at the nearer limit.
     fn negative(self) -> Count<K>
-        ensures exact { unsigned_abs self.0 ≤ 2 ^ 40 → (result.0 ≡ neg_ℤ self.0) × (unsigned_abs result.0 ≡ unsigned_abs self.0) }
+        ensures exact { unsigned_abs self.0 ≤ 2 ^ 40
+            → (result.0 ≡ neg_ℤ self.0) × (unsigned_abs result.0 ≡ unsigned_abs self.0) }
         ensures limited { result.0 ≡ saturate_to_bits 63 (neg_ℤ self.0) }
     {
         Count::new(self.0.saturating_neg())

@@ -7,14 +7,14 @@ use crate::cost::Cost;
 use std::fmt;
 use theory::Grouped;
 
-// The second part decides only between equal first parts.
+/// A cost of two parts. The second part decides only between equal first parts.
 #[derive(Clone, Copy, PartialEq, Eq, Debug)]
 pub struct Pair<A, B> {
     pub first: A,
     pub second: B,
 }
 
-// both parts, with a space between
+/// Both parts, with a space between.
 impl<A: fmt::Display, B: fmt::Display> fmt::Display for Pair<A, B> {
     ghost output = { λ p. spaced (A.Display.output p.first) (B.Display.output p.second) };
 
@@ -56,7 +56,6 @@ impl<A: Cost, B: Cost> Cost for Pair<A, B> {
         }
     }
 
-    // Not by a derived order: that would say nothing of the parts' worths.
     fn at_most(self, other: Pair<A, B>) -> bool {
         self.first.below(other.first)
             || (self.first.at_most(other.first) && self.second.at_most(other.second))

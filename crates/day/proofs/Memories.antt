@@ -3,42 +3,34 @@ use Rattle.std.proofs.Common.{◌≡◌, ℕ, ◌≤◌, List, length, ℤ, Ok, 
 use Rattle.records.specs.declared.refusal.Refusal.{Refusal}
 use Rattle.network.specs.Nets.{Net}
 use Rattle.planning.specs.declared.tables.Tables.{Tables}
-use Rattle.desk.specs.Entries.{Lent as LentFrom}
 use Rattle.tally.specs.Tallies.{Tally, fresh}
 use Rattle.tally.specs.Runs.{Lent, WholeRun}
 use Rattle.tally.specs.declared.answer.Answer.{Answer}
 use Rattle.tally.specs.declared.call.Call.{Call}
 use Rattle.board.specs.Running.{Fits, WholeRan, given, lending}
 use Rattle.board.specs.declared.entries.Entries.{Entries}
+use Rattle.workspace.specs.Entries.{Holds, HasEntries}
 use Rattle.day.specs.Memories.{Made, Suffices, handed_by, most_lent}
 use Rattle.day.specs.declared.memory.Memory.{Memory}
 
 module _ (legs : ℕ) (calls : List Call) (m : Memory) (tables : Tables) (prices : List ℤ) (numbers amounts : List ℕ)
-    (ep : prices ≡ m.prices.items) (en : numbers ≡ m.numbers.items) (ea : amounts ≡ m.amounts.items) (l : LentFrom m.desk tables) where
+    (ep : prices ≡ m.prices.items) (en : numbers ≡ m.numbers.items) (ea : amounts ≡ m.amounts.items) (l : (stations legs : ℕ) → Holds stations legs m.workspace → HasEntries stations legs tables) where
   -- as much is lent as the calls take
   lent_room : (s : Suffices legs calls m) → given (lending prices numbers amounts) tables ≡ s.room
   lent_room s =
       let has : Entries = given (lending prices numbers amounts) tables in
-      let labels : length tables.labels.now ≡ s.room.stations = ap length l.labels ∙ s.desk.labels in
-      let cents : length tables.cents.now ≡ s.room.stations = ap length l.cents ∙ s.desk.cents in
-      let heads : length tables.chains.heads.now ≡ s.room.stations = ap length l.heads ∙ s.desk.heads in
-      let left : length tables.draft.left.now ≡ s.room.stations = ap length l.left ∙ s.desk.left in
-      let marks : length tables.marks.now ≡ s.room.stations = ap length l.marks ∙ s.desk.marks in
-      let plan : length tables.draft.amounts.now ≡ s.room.legs = ap length l.amounts ∙ s.desk.amounts in
-      let nexts : length tables.chains.nexts.now ≡ s.room.legs = ap length l.nexts ∙ s.desk.nexts in
+      let entries = l s.room.stations s.room.legs s.workspace in
       let p : has.prices ≡ s.room.prices = ap length ep ∙ s.prices in
       let n : has.numbers ≡ s.room.numbers = ap length en ∙ s.numbers in
       let a : has.amounts ≡ s.room.amounts = ap length ea ∙ s.amounts in
-      let v : has.stations ≡ s.room.stations = omega arith in
-      let k : has.legs ≡ s.room.legs = omega arith in
-      λ i. record { prices = p i; numbers = n i; amounts = a i; stations = v i; legs = k i }
+      λ i. record { prices = p i; numbers = n i; amounts = a i; stations = entries.for_stations i; legs = entries.for_legs i }
 
   lent_fits : Suffices legs calls m → Fits legs calls (length calls) most_lent → Fits legs calls (length calls) (given (lending prices numbers amounts) tables)
   lent_fits s f = subst (Fits legs calls (length calls)) (sym (lent_room s)) (s.fits f)
 
 pub made : (r : Result (Unit {0}) Refusal) (net : Net) (calls : List Call) (m : Memory) (tables : Tables)
     (prices : List ℤ) (numbers amounts : List ℕ) (before after : List Answer) (handed : Lent)
-    → before ≡ m.answers.items → prices ≡ m.prices.items → numbers ≡ m.numbers.items → amounts ≡ m.amounts.items → LentFrom m.desk tables
+    → before ≡ m.answers.items → prices ≡ m.prices.items → numbers ≡ m.numbers.items → amounts ≡ m.amounts.items → ((stations legs : ℕ) → Holds stations legs m.workspace → HasEntries stations legs tables)
     → (last : Tally) × WholeRan r (given (lending prices numbers amounts) tables) (fresh net) last calls before after (lending prices numbers amounts) handed
     → Made r net calls m after handed
 made (Ok u) net calls m tables prices numbers amounts before after handed eb ep en ea l w =

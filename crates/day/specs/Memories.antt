@@ -9,7 +9,6 @@ use Rattle.std.specs.Prelude.{◌≡◌, ℕ, ◌+◌, ◌≤◌, ◌⊎◌, Lis
 use Rattle.records.specs.declared.refusal.Refusal.{Refusal}
 use Rattle.records.specs.declared.refusal.Refusal.TheVariants.{SliceTooShort}
 use Rattle.network.specs.Nets.{Net}
-use Rattle.desk.specs.Entries.{Holds}
 use Rattle.planning.specs.declared.tables.Tables.{Tables}
 use Rattle.tally.specs.Tallies.{Tally, fresh}
 use Rattle.tally.specs.Runs.{Lent, WholeRun}
@@ -17,6 +16,7 @@ use Rattle.tally.specs.declared.answer.Answer.{Answer}
 use Rattle.tally.specs.declared.call.Call.{Call}
 use Rattle.board.specs.Running.{Fits, given, lending}
 use Rattle.board.specs.declared.entries.Entries.{Entries}
+use Rattle.workspace.specs.Entries.{Holds}
 use Rattle.day.specs.declared.memory.Memory.{Memory}
 
 -- of each kind four million entries
@@ -40,7 +40,7 @@ pub record Suffices (legs : ℕ) (calls : List Call) (m : Memory) : Type 0 where
   pub prices : length m.prices.items ≡ room.prices
   pub numbers : length m.numbers.items ≡ room.numbers
   pub amounts : length m.amounts.items ≡ room.amounts
-  pub desk : Holds room.stations room.legs m.desk
+  pub workspace : Holds room.stations room.legs m.workspace
   pub fits : Fits legs calls (length calls) most_lent → Fits legs calls (length calls) room
 
 -- there is room for each answer, and the memory with some working tables suffices

@@ -8,12 +8,12 @@ ghost use Rattle.day.specs.Memories.{Both, Made, Suffices, handed_by, most_lent}
 use crate::telling::Rest;
 use board::entries::Entries;
 use board::{Sheet, run};
-use desk::Desk;
 use network::Office;
 use planning::Tables;
 use records::Refusal;
 use std::alloc::{AllocError, Global};
 use tally::{Answer, Call};
+use workspace::Workspace;
 
 // No day is lent more entries of one kind. So a call with lengths beyond all reason is refused, and does not use up the machine.
 const MOST_ENTRIES: usize = 4_000_000;
@@ -85,7 +85,7 @@ pub(crate) struct Memory {
     prices: Vec<i64>,
     numbers: Vec<usize>,
     amounts: Vec<u16>,
-    desk: Desk,
+    workspace: Workspace,
 }
 
 impl Memory {
@@ -99,7 +99,7 @@ impl Memory {
             prices: vec![in heap; 0; room.prices]?,
             numbers: vec![in heap; 0; room.numbers]?,
             amounts: vec![in heap; 0; room.amounts]?,
-            desk: Desk::new(heap, room.stations, room.legs)?,
+            workspace: Workspace::new(heap, room.stations, room.legs)?,
         })
     }
 
@@ -107,7 +107,7 @@ impl Memory {
     pub(crate) fn run<N: Office + Drop>(&mut self, net: N, calls: &[Call]) -> Result<(), Refusal>
         ensures { Made result (N.Network.meaning net) calls.now self.old self.new.answers.items (handed_by self.new) }
     {
-        let mut tables = self.desk.lend();
+        let mut tables = self.workspace.lend();
         run_with(
             net,
             calls,

@@ -10,7 +10,7 @@ use Rattle.records.specs.declared.leg.Leg.{Leg}
 use Rattle.network.specs.Nets.{Net}
 use Rattle.std.proofs.lemmas.Option.{get_or_from_slice_get}
 use Rattle.plans.specs.Plans.{leg_at, amount}
-use Rattle.planning.specs.Planned.{the_plan}
+use Rattle.planning_rules.specs.Answers.{the_plan}
 use Rattle.plan_answers.specs.Printed.{leg_line}
 
 range_more : (n : ℕ) → range_with_len 0 n ++ n ∷ [] ≡ range_with_len 0 (n + 1)

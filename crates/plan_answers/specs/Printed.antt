@@ -6,20 +6,18 @@
 --   plan_lines      the lines of a plan
 --   BestPlan        bytes that tell a best plan
 --   NoPlan          bytes that tell that no plan obeys
---   PrintsNet       a network, its refusal before the search if there is one, and the bytes that are printed for it
+--   PrintsNet       a network, number and place of its refusal before the search if there is one, and the bytes that are printed for it
 --   PrintsWhole     a network, and the bytes that are printed for it in tables for the largest
 --   PrintsStated    a network that a text states, and the bytes that are printed for it
 use Rattle.std.specs.Prelude.{◌≡◌, ℕ, ◌+◌, ◌⊎◌, List, [], ◌∷◌, ◌++◌, length, Some, None, codes, decimal, Option}
 use Rattle.std.specs.List.{range_with_len, flat_map}
-use Rattle.records.specs.Refusals.{number, place}
 use Rattle.records.specs.declared.leg.Leg.{Leg}
-use Rattle.records.specs.declared.refusal.Refusal.{Refusal}
 use Rattle.text_rules.specs.Stated.{StatedNetwork}
 use Rattle.network.specs.Nets.{Net}
 use Rattle.plans.specs.Cuts.{Cut}
 use Rattle.plans.specs.Plans.{leg_at, amount, Obeys, cents, CheapestThenNearest}
-use Rattle.checks.specs.Checks.{checked}
-use Rattle.checks.specs.declared.lengths.Lengths.{Lengths}
+use Rattle.planning_rules.specs.Checks.{planning_fault}
+use Rattle.planning_rules.specs.declared.lengths.Lengths.{Lengths}
 use Rattle.text_table.specs.Stands.{net_of}
 use Rattle.answers.specs.Answered.{refusal_line}
 
@@ -57,13 +55,13 @@ pub record NoPlan (net : Net) (bytes : List ℕ) : Type 0 where
   pub told : bytes ≡ refusal_line 15 (length cut)
 
 -- which best plan and which cut is left open
-abbrev pub PrintsNet : Net → Option Refusal → List ℕ → Type 0
-PrintsNet net (Some e) bytes = bytes ≡ refusal_line (number e) (place e)
+abbrev pub PrintsNet : Net → Option (ℕ × ℕ) → List ℕ → Type 0
+PrintsNet net (Some f) bytes = bytes ≡ refusal_line f.0 f.1
 PrintsNet net None bytes = BestPlan net bytes ⊎ NoPlan net bytes
 
 -- by planning in tables for the largest network
 abbrev pub PrintsWhole : Net → List ℕ → Type 0
-PrintsWhole net bytes = PrintsNet net (checked net whole_lengths) bytes
+PrintsWhole net bytes = PrintsNet net (planning_fault net whole_lengths) bytes
 
 abbrev pub PrintsStated : StatedNetwork → List ℕ → Type 0
 PrintsStated net bytes = PrintsWhole (net_of net) bytes

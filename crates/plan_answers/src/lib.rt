@@ -2,8 +2,8 @@
 #![tactic(auto)]
 
 ghost use Rattle.std.specs.Prelude.{IfOk, string_bytes};
-ghost use Rattle.checks.specs.Checks.{checked};
-ghost use Rattle.planning.specs.Planned.{lengths_of};
+ghost use Rattle.planning_rules.specs.Checks.{planning_fault};
+ghost use Rattle.planning.specs.Tables.{lengths_of};
 ghost use Rattle.plan_answers.specs.Printed.{PrintsNet, PrintsWhole};
 
 mod answer_lines;
@@ -11,12 +11,12 @@ mod plan_once;
 
 pub use answer_lines::plan_text;
 pub use answers::refusal_text;
-use desk::Desk;
 use network::Network;
 pub use plan_once::{PlanOnce, answer_text};
 use planning::Tables;
 use records::{MOST_LEGS, MOST_STATIONS};
 use std::alloc::{AllocError, Global};
+use workspace::Workspace;
 
 // What is printed for a network, by planning in these slices and tables.
 fn answer_within<N: Network>(
@@ -26,7 +26,7 @@ fn answer_within<N: Network>(
     cut: &mut [usize],
     tables: &mut Tables<'_>,
 ) -> Result<String, AllocError>
-    ensures { IfOk result (λ s. PrintsNet (N.Network.meaning net.now) (checked (N.Network.meaning net.now) (lengths_of prices.old cut.old tables.old)) (string_bytes s)) }
+    ensures { IfOk result (λ s. PrintsNet (N.Network.meaning net.now) (planning_fault (N.Network.meaning net.now) (lengths_of prices.old cut.old tables.old)) (string_bytes s)) }
 {
     match planning::plan(net, &[], prices, cut, tables) {
         Ok((cents, _)) => plan_text(heap, net, cents, tables.draft.amounts),
@@ -40,8 +40,8 @@ pub fn network_answer<N: Network>(heap: Global, net: &N) -> Result<String, Alloc
 {
     let mut prices = vec![in heap; 0; MOST_STATIONS]?;
     let mut cut = vec![in heap; 0; MOST_STATIONS]?;
-    let mut desk = Desk::new(heap, MOST_STATIONS, MOST_LEGS)?;
-    let mut tables = desk.lend();
+    let mut workspace = Workspace::new(heap, MOST_STATIONS, MOST_LEGS)?;
+    let mut tables = workspace.lend();
     answer_within(
         heap,
         net,

@@ -1,3 +1,14 @@
+pub mod Adding
+pub mod Handing
+pub mod Leaving
+pub mod Seeing
+pub mod Routing
+pub mod Reaching
+pub mod Measuring
+pub mod Going
+pub mod Spending
+pub mod Choosing
+pub mod Rounding
 pub mod Gathering
 pub mod Showing
 pub mod Sending

@@ -7,12 +7,13 @@ use Rattle.network.specs.Nets.{Net}
 use Rattle.plans.specs.Plans.{stations, amount}
 use Rattle.plans.specs.Cuts.{left_over}
 use Rattle.certificates.specs.Totals.{all_over}
-use Rattle.draft.specs.declared.Draft.{Draft}
+use Rattle.planning.specs.declared.draft.Draft.{Draft}
 use Rattle.search.specs.Searches.{From}
 use Rattle.search.specs.declared.label.Arrival.{Arrival}
 use Rattle.search.specs.declared.label.Label.{Label}
-use Rattle.pushing.specs.Sends.{Both, Known, SettledFor, Tracks, Ready, Sends}
-use Rattle.planning.specs.States.{the_plan, Lessened, SentAll, SentSome, SendsAll, SendsSome}
+use Rattle.planning.specs.Sends.{Both, Known, SettledFor, Tracks, Ready, Sends}
+use Rattle.planning_rules.specs.Answers.{the_plan}
+use Rattle.planning.specs.States.{Lessened, SentAll, SentSome, SendsAll, SendsSome}
 
 -- the amounts of the legs are the plan's
 of_legs : (net : Net) (amounts : List ℕ) (k : ℕ) → k < length net.legs → amount (the_plan net amounts) k ≡ amount amounts k

@@ -16,18 +16,19 @@ use Rattle.steps.specs.Fees.{paid, fee_both, both_worth}
 use Rattle.steps.proofs.Paying.{both_steps}
 use Rattle.search.specs.Labels.{label_at}
 use Rattle.search.specs.Searches.{Answer, From, StepOf}
-use Rattle.chain_search.specs.Searches.{Enough, TooShort}
-use Rattle.chain_search.specs.declared.chains.Chains.{Chains}
+use Rattle.search.specs.Searches.{Enough, TooShort}
+use Rattle.search.specs.declared.chains.Chains.{Chains}
 use Rattle.search.specs.declared.label.Arrival.{Arrival}
 use Rattle.search.specs.declared.label.Label.{Label}
 use Rattle.search.specs.declared.outcome.Outcome.{Outcome}
 use Rattle.search.specs.declared.outcome.Outcome.TheVariants.{Settled, RoundTrip as Trip}
 use Rattle.search.proofs.Optional.{option_cases}
 use Rattle.search.proofs.Stepping.{ends}
-use Rattle.draft.specs.declared.Draft.{Draft}
-use Rattle.pushing.specs.Sends.{Both, SettledFor, Agrees}
+use Rattle.planning.specs.declared.draft.Draft.{Draft}
+use Rattle.planning.specs.Sends.{Both, SettledFor, Agrees}
 use Rattle.planning.specs.Reached.{reached, reached_below}
-use Rattle.planning.specs.States.{the_plan, Prepared, Underway, Marks, Marking, SendsAll, Turned}
+use Rattle.planning_rules.specs.Answers.{the_plan}
+use Rattle.planning.specs.States.{Prepared, Underway, Marks, Marking, SendsAll, Turned}
 use Rattle.planning.specs.declared.tables.Tables.{Tables}
 use Rattle.planning.proofs.Showing.{there, shows_cut}
 
@@ -129,14 +130,14 @@ module _ (net : Net) (standing : List ℕ) (before : Tables) (o : ℕ) (u : Unde
   abbrev sought : Outcome → List (Label Both) → Type 0
   sought answer ls = Answer both_kind net sent (fee_both standing) starts answer ls
 
-  pub turned : (r : ℕ) (answer : Outcome) → answer ≡ Settled → 0 < o → Marking before.draft.left.now before.marks.now marks → (tables : Tables) → sought answer tables.labels.now → SendsAll net standing tables.labels.now o r before.draft tables.draft → Turned net standing o (then_some (ltb r o) r) tables
-  turned r answer q some m tables z all =
+  pub turned : (r : ℕ) (answer : Outcome) → 0 < o → Marking before.draft.left.now before.marks.now marks → (tables : Tables) → sought answer tables.labels.now → SendsAll net standing tables.labels.now o r before.draft tables.draft → Turned net standing o (then_some (ltb r o) r) tables
+  turned r Settled some m tables z all =
       let marked : Marks (stations net) before.draft.left.now marks = λ v h. m.1 v (omega (arith, h, ready.marks)) in
-      let z' : SettledFor net standing (the_plan net before.draft.amounts.now) starts tables.labels.now = rw (e, q) at z in
+      let z' : SettledFor net standing (the_plan net before.draft.amounts.now) starts tables.labels.now = rw e at z in
       settled net standing before.draft o u marks marked tables r z' ready.ends_below some all
-
-  pub never_round : (ls : List (Label Both)) (answer : Outcome) → answer ≡ Trip → sought answer ls → ⊥
-  never_round ls answer q t = let t' : Answer both_kind net (the_plan net before.draft.amounts.now) (fee_both standing) starts Trip ls = rw (e, q) at t in no_trip net standing before.draft o u starts ls t'
+  turned r Trip some m tables z all =
+      let z' : Answer both_kind net (the_plan net before.draft.amounts.now) (fee_both standing) starts Trip tables.labels.now = rw e at z in
+      absurd (no_trip net standing before.draft o u starts tables.labels.now z')
 
 -- tables that suffice are not too short
 pub never_short : {C : Type 0} (net : Net) (ls : List (Label C)) (chains : Chains) → Enough net ls chains → TooShort net ls chains → ⊥

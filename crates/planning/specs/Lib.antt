@@ -1,3 +1,12 @@
-pub mod Planned
+pub mod Drafts
+pub mod Guesses
+pub mod Leavings
+pub mod Mends
+pub mod Potentials
 pub mod Reached
+pub mod Rounds
+pub mod Routes
+pub mod Sendable
+pub mod Sends
 pub mod States
+pub mod Tables

@@ -2,7 +2,7 @@
 --   reached         whether a station is labelled
 --   reached_below   the reached stations below a number, by rising number
 --   WritesCut       a cut after the reached stations were written into it
-use Rattle.std.specs.Prelude.{◌≡◌, ℕ, zero, suc, ◌≤◌, Bool, cond, List, [], ◌∷◌, ◌++◌, length, take, drop, is_some}
+use Rattle.std.specs.Prelude.{◌≡◌, ℕ, zero, suc, ◌≤◌, Bool, if◌then◌else◌, List, [], ◌∷◌, ◌++◌, length, take, drop, is_some}
 use Rattle.search.specs.Labels.{label_at}
 use Rattle.search.specs.declared.label.Label.{Label}
 
@@ -11,7 +11,7 @@ reached ls v = is_some (label_at ls v).arrival
 
 abbrev pub reached_below : {C : Type 0} → List (Label C) → ℕ → List ℕ
 reached_below ls zero = []
-reached_below ls (suc v) = reached_below ls v ++ cond (reached ls v) (v ∷ []) []
+reached_below ls (suc v) = reached_below ls v ++ (if reached ls v then v ∷ [] else [])
 
 -- further entries stay
 pub record WritesCut {C : Type 0} (n : ℕ) (ls : List (Label C)) (count : ℕ) (before after : List ℕ) : Type 0 where

@@ -2,16 +2,16 @@
 ghost use Rattle.std.specs.Prelude.{◌≤◌, length};
 ghost use Rattle.planning.specs.Reached.{WritesCut};
 
-use chain_search::Label;
 use costs::CentsThenBikes;
+use search::Label;
 
-// Writes the reached stations into the cut, by rising number, and says how many they are. By index, since of a cut that is written
-// through a zip of `iter_mut` only the length is known after it.
+// Writes the reached stations into the cut, by rising number, and says how many they are.
 pub(crate) fn write_cut(labels: &[Label<CentsThenBikes>], cut: &mut [usize]) -> usize
     requires { length labels.now ≤ length cut.old }
     ensures { WritesCut (length labels.now) labels.now result cut.old cut.new }
 {
     let mut count = 0;
+    // by index: of what a zip of `iter_mut` writes only the length is known after it
     for (station, label) in labels.iter().enumerate() {
         if label.arrival.is_some() {
             cut[count] = station;

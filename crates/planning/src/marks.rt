@@ -1,7 +1,7 @@
 // The stations where a search starts.
 ghost use Rattle.planning.specs.States.{Marking};
 
-use draft::Draft;
+use crate::draft::Draft;
 
 // Marks the stations that have bikes over.
 pub(crate) fn mark_over(draft: &Draft<'_>, marks: &mut [bool])

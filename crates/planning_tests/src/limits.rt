@@ -1,5 +1,5 @@
 // Both sides of every limit, and what a refusal leaves. Each limit is stated here by itself, by no constant of the planner.
-use crate::lent::Sizes;
+use crate::lent::{Part, Sizes};
 use crate::print;
 use records::{Leg, Mark};
 use samples::worked::{FROM_1, PAST_1, STATIONS, T, TO_1, station};
@@ -8,70 +8,23 @@ use std::io;
 // The slices for prices and cut: an entry less than there are stations, as many, one more.
 const SLICES: [(usize, usize); 7] = [(2, 3), (3, 2), (2, 2), (3, 3), (4, 3), (3, 4), (4, 4)];
 
-// Working tables: one of them an entry too short, and all of them an entry longer.
-const TABLES: [(&str, Sizes); 8] = [
-    (
-        "2,999 amounts",
-        Sizes {
-            amounts: 2999,
-            ..Sizes::THREE
-        },
-    ),
-    (
-        "239 labels",
-        Sizes {
-            labels: 239,
-            ..Sizes::THREE
-        },
-    ),
-    (
-        "239 labels in cents",
-        Sizes {
-            cents: 239,
-            ..Sizes::THREE
-        },
-    ),
-    (
-        "239 heads",
-        Sizes {
-            heads: 239,
-            ..Sizes::THREE
-        },
-    ),
-    (
-        "239 left",
-        Sizes {
-            left: 239,
-            ..Sizes::THREE
-        },
-    ),
-    (
-        "239 marks",
-        Sizes {
-            marks: 239,
-            ..Sizes::THREE
-        },
-    ),
-    (
-        "2,999 nexts",
-        Sizes {
-            nexts: 2999,
-            ..Sizes::THREE
-        },
-    ),
-    (
-        "one more of each",
-        Sizes {
-            amounts: 3001,
-            labels: 241,
-            cents: 241,
-            heads: 241,
-            left: 241,
-            marks: 241,
-            nexts: 3001,
-            ..Sizes::THREE
-        },
-    ),
+// The working tables, each of which is lent with one entry less.
+const TABLES: [(&str, Part); 15] = [
+    ("amounts", Part::Amounts),
+    ("left", Part::Left),
+    ("potentials", Part::Potentials),
+    ("lower arcs", Part::LowerArcs),
+    ("upper arcs", Part::UpperArcs),
+    ("nodes", Part::Nodes),
+    ("folded potentials", Part::FoldedPotentials),
+    ("best arcs", Part::Best),
+    ("labels", Part::Labels),
+    ("labels in cents", Part::Cents),
+    ("heads", Part::Heads),
+    ("nexts", Part::Nexts),
+    ("heap", Part::Heap),
+    ("places", Part::Places),
+    ("marks", Part::Marks),
 ];
 
 // A leg of the highest capacity and charge, from the first station to the last.
@@ -174,12 +127,22 @@ pub(crate) fn slices(rt: &HostRuntime) -> io::Result<()> {
     Ok(())
 }
 
-// Working tables of two lengths.
+// Working tables: one of them an entry too short, and all of them an entry longer.
 pub(crate) fn tables(rt: &HostRuntime) -> io::Result<()> {
-    for (name, sizes) in TABLES {
-        print::on_table(rt, name, &T, &STATIONS, &[], sizes)?;
+    for (name, part) in TABLES {
+        println!(rt; "one entry less in {name}")?;
+        let sizes = Sizes {
+            shorter: Some(part),
+            ..Sizes::THREE
+        };
+        print::on_table(rt, "T", &T, &STATIONS, &[], sizes)?;
     }
-    Ok(())
+    let sizes = Sizes {
+        stations: 241,
+        legs: 3001,
+        ..Sizes::THREE
+    };
+    print::on_table(rt, "one more of each", &T, &STATIONS, &[], sizes)
 }
 
 // A leg behind one that is sensible.

@@ -1,8 +1,10 @@
-// Plans on small and large networks, and prints what each planning answers and leaves in the slices.
+// Plans on small and large networks, and prints what each planning answers and leaves in the slices. Of plannings by other guesses than
+// the planner's own it prints whether they come to the same.
 // The lines are compared with the file `stdout`.
 #![tactic(auto)]
 
 mod drawing;
+mod guesses;
 mod lent;
 mod limits;
 mod print;

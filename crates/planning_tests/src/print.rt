@@ -1,6 +1,8 @@
 // Plans, and prints what the planning answers and leaves, in words of these tests: a planning answers a tuple, which has no `Display`. The
 // runtime, a name and what is planned on are arguments by themselves: each case has others.
+use crate::guesses::OTHERS;
 use crate::lent::{Lent, Sizes};
+use crate::verdicts::Planned;
 use network::Network;
 use records::{Leg, Refusal, Station};
 use std::io;
@@ -22,6 +24,24 @@ fn answer(
     }
 }
 
+// Plans by every other guess what was planned, and prints how many came to the same, and which did not.
+pub(crate) fn by_other_guesses<N: Network>(
+    rt: &HostRuntime,
+    planned: &Planned<'_, N>,
+) -> io::Result<()> {
+    let mut lent = Lent::new(rt.alloc(), planned.lent.sizes)?;
+    let mut same = 0u32;
+    for (name, guess) in OTHERS {
+        let other = Planned::new(planned.net, planned.standing, Some(guess), &mut lent);
+        if other.comes_to(planned) {
+            same = same.saturating_add(1);
+        } else {
+            println!(rt; "  otherwise by {name}")?;
+        }
+    }
+    println!(rt; "  the same by {same} other guesses")
+}
+
 // Plans on a network, with slices and tables of given sizes.
 pub(crate) fn planning<N: Network>(
     rt: &HostRuntime,
@@ -31,12 +51,13 @@ pub(crate) fn planning<N: Network>(
     sizes: Sizes,
 ) -> io::Result<()> {
     let mut lent = Lent::new(rt.alloc(), sizes)?;
-    let found = lent.plan(net, standing);
-    answer(rt, name, found, lent.planned(net.legs()))?;
-    let prices = lent.prices.as_slice();
-    let cut = lent.cut.as_slice();
+    let planned = Planned::new(net, standing, None, &mut lent);
+    answer(rt, name, planned.answer, planned.lent.planned(net.legs()))?;
+    let prices = planned.lent.prices.as_slice();
+    let cut = planned.lent.cut.as_slice();
     println!(rt; "  prices {prices:?}")?;
-    println!(rt; "  cut {cut:?}")
+    println!(rt; "  cut {cut:?}")?;
+    by_other_guesses(rt, &planned)
 }
 
 // The same on a table of legs and stations.

@@ -1,5 +1,6 @@
 // Tiny networks drawn at random, each planned and held against all plans that there are.
 use crate::drawing::{add, draw_leg};
+use crate::guesses::{Guessed, OTHERS};
 use crate::lent::{Lent, Sizes};
 use crate::rules;
 use crate::verdicts::Planned;
@@ -104,9 +105,9 @@ impl Tally {
     }
 }
 
-// Draws and plans, and prints the sums. A network on which planning and all plans disagree is named. The turns are counted, since each
-// draws on what the generator has come to.
-pub(crate) fn all(rt: &HostRuntime) -> io::Result<()> {
+// Draws and plans by a guess or by the planner's own, and prints the sums under its name. A network on which planning and all plans disagree is named. The turns
+// are counted, since each draws on what the generator has come to.
+fn by(rt: &HostRuntime, name: &str, guess: Option<Guessed>) -> io::Result<()> {
     let mut generator = Generator::new(1);
     let mut lent = Lent::new(rt.alloc(), Sizes::ALL)?;
     let mut tally = Tally::default();
@@ -120,17 +121,26 @@ pub(crate) fn all(rt: &HostRuntime) -> io::Result<()> {
             legs: legs.as_mut_slice(),
             stations: stations.as_mut_slice(),
         };
-        let planned = Planned::new(&table, standing.as_slice(), &mut lent);
+        let planned = Planned::new(&table, standing.as_slice(), guess, &mut lent);
         if !tally.enter(&planned) {
             println!(rt; "random network {number} disagrees")?;
         }
     }
     println!(rt;
-        "random networks: {} with a plan, {} without, {} agree",
+        "random networks by {name}: {} with a plan, {} without, {} agree",
         tally.planned, tally.refused, tally.agreed
     )?;
     println!(rt;
         "  {} cents, difference {}, prices {} in all",
         tally.cents, tally.difference, tally.prices
     )
+}
+
+// The same networks by each guess.
+pub(crate) fn all(rt: &HostRuntime) -> io::Result<()> {
+    by(rt, "the planner's own guess", None)?;
+    for (name, guess) in OTHERS {
+        by(rt, name, Some(guess))?;
+    }
+    Ok(())
 }

@@ -1,6 +1,7 @@
 // Large networks, drawn from seeds and handed on as texts. What they cost comes from another solver.
 use crate::drawing::{add, draw_leg};
 use crate::lent::{Lent, Sizes};
+use crate::print::by_other_guesses;
 use crate::verdicts::Planned;
 use network::Network;
 use records::{Leg, MOST_LEGS, MOST_REPORTED, MOST_STATIONS, Station};
@@ -167,14 +168,15 @@ fn print<N: Network>(rt: &HostRuntime, name: &str, planned: &Planned<'_, N>) -> 
             let sound = planned.is_sound((cents, difference));
             let prices = planned.prices();
             println!(rt; "text {name} cents {cents}")?;
-            println!(rt; "  difference {difference}, prices {prices} in all, sound {sound}")
+            println!(rt; "  difference {difference}, prices {prices} in all, sound {sound}")?;
         }
         Err(refusal) => {
             let cut = planned.names_cut(refusal);
             println!(rt; "text {name} refused {}", refusal.number())?;
-            println!(rt; "  with a cut {cut}")
+            println!(rt; "  with a cut {cut}")?;
         }
     }
+    by_other_guesses(rt, planned)
 }
 
 // Reads a text and plans.
@@ -183,7 +185,7 @@ fn read(rt: &HostRuntime, name: &str, text: &[u8], lent: &mut Lent) -> io::Resul
     let mut stations = vec![in rt.alloc(); Station::default(); MOST_STATIONS]?;
     match read_table(text, legs.as_mut_slice(), stations.as_mut_slice()) {
         Ok(table) => {
-            let planned = Planned::new(&table, &[], lent);
+            let planned = Planned::new(&table, &[], None, lent);
             print(rt, name, &planned)
         }
         Err(refusal) => println!(rt; "text {name} not read: {refusal}"),

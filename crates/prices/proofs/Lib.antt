@@ -1,1 +1,3 @@
 pub mod Settling
+pub mod Checking
+pub mod Confirming

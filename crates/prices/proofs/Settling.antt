@@ -1,6 +1,6 @@
 -- From what the search says at cents, from every station, to prices.
-use Rattle.std.proofs.Common.{◌≡◌, ℕ, ◌<◌, ◌≤◌, true, List, [], ◌++◌, length, take, drop, length-take, ℤ, pos, sym, refl, ap, subst, ◌∙◌, inl, inr, arith}
-use Rattle.std.proofs.lemmas.List.FromFn.{fill_by_all}
+use Rattle.std.proofs.Common.{◌≡◌, ℕ, ◌<◌, ◌≤◌, true, List, [], ◌++◌, length, take, drop, length-take, ℤ, pos, sym, refl, subst, ◌∙◌, inl, inr, arith}
+use Rattle.std.proofs.lemmas.List.FromFn.{get_or-map-range_with_len}
 use Rattle.std.proofs.lemmas.Slice.{drop-append-drop}
 use Rattle.std.proofs.Math.ListN.{get_or-append}
 use Rattle.network.specs.Nets.{Net}
@@ -20,7 +20,11 @@ use Rattle.search.specs.declared.label.Label.{Label}
 use Rattle.search.specs.declared.outcome.Outcome.TheVariants.{Settled}
 use Rattle.search.proofs.Optional.{option_cases}
 use Rattle.search.proofs.Stepping.{ends}
-use Rattle.prices.specs.Priced.{cents_fee, price_at, price_in, totals, Writes, Prices, Found, Written}
+use Rattle.prices.specs.Priced.{cents_fee, price_in, totals, Writes, Found, Written}
+use Rattle.plans.specs.Prices.{price_at, Prices}
+
+pub price_at-totals : (n : ℕ) (ls : List (Label Cents)) (v : ℕ) → v < n → price_at (totals n ls) v ≡ price_in (label_at ls v)
+price_at-totals n ls v h = get_or-map-range_with_len (λ w. price_in (label_at ls w)) 0 n v v (pos 0) h (omega arith)
 
 -- where walks start at the end of every step, every round trip below zero is reached
 module _ {A : Type 0} (G : OrderedGroup A) (F : ℕ → Type 0) (S : ℕ → ℕ → A → Type 0) (starts : (u v : ℕ) (c : A) → S u v c → F v) where
@@ -90,13 +94,18 @@ writes_before n ls prices written few long w =
       each = λ v l. get_or-append written (drop n prices) (pos 0) v (omega arith) ∙ w.each v (omega (arith, long, length-take n prices));
     }
 
--- what an outcome stands for
-pub written : (net : Net) (plan : List ℕ) (ls : List (Label Cents)) (before after : List ℤ) → Found net plan Settled ls → Writes (stations net) ls before after → Written net plan Settled before after
-written net plan ls before after z w = (no_trip_of net plan z.no_trip, prices_of net plan ls z before after w, w.beyond)
+-- after a search
+pub written_found : (net : Net) (plan : List ℕ) (ls : List (Label Cents)) (before after : List ℤ) → Found net plan Settled ls → Writes (stations net) ls before after → Written net plan Settled before after
+written_found net plan ls before after z w = (no_trip_of net plan z.no_trip, prices_of net plan ls z before after w, w.beyond)
 
--- written entries and those beyond, as one list
-pub as_totals : (n k : ℕ) (ls : List (Label Cents)) (prices written : List ℤ) → n ≤ length prices → length written ≡ n → Writes (length (take n prices)) ls (take n prices) written → n ≡ k
-    → written ++ drop n prices ≡ totals k ls ++ drop k prices
-as_totals n k ls prices written few long w e =
-    let each : (v : ℕ) → v < n → price_at written v ≡ price_in (label_at ls v) = λ v l. w.each v (omega (arith, few, length-take n prices)) in
-    ap (λ ps. ps ++ drop n prices) (fill_by_all (λ v. price_in (label_at ls v)) written n (pos 0) long each) ∙ ap (λ j. totals j ls ++ drop j prices) e
+-- from totals that are the prices
+pub written_confirmed : (net : Net) (plan : List ℕ) (ls : List (Label Cents)) (before after : List ℤ) → (CentsRoundTrip net plan → ⊥) × Prices net plan (totals (stations net) ls) → Writes (stations net) ls before after → Written net plan Settled before after
+written_confirmed net plan ls before after p w =
+    let same : (v : ℕ) → v < stations net → price_at after v ≡ price_at (totals (stations net) ls) v = λ v h. w.each v h ∙ sym (price_at-totals (stations net) ls v h) in (
+      p.0,
+      record {
+        price = λ v h. rw (same v h) (p.1.price v h);
+        reduced = λ u v c s. let e = ends net plan (step_cents net) u v c s in rw (same u e.0, same v e.1) (p.1.reduced u v c s);
+      },
+      w.beyond,
+    )

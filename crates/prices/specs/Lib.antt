@@ -1,1 +1,4 @@
 pub mod Priced
+pub mod Queues
+pub mod Checked
+pub mod Claims

@@ -1,65 +1,87 @@
-// Prices of stations: the least totals in cents of simple walks on the residual network of a plan.
+//! Prices of stations: the least totals in cents of simple walks on the residual network of a plan.
 #![tactic(auto)]
 
-ghost use Rattle.std.specs.Prelude.{◌≡◌, ℕ, ◌≤◌, min, List, length};
+ghost use Rattle.std.specs.Prelude.{◌≡◌, IfErr, IfOk, OnErr, OnOk, drop};
 ghost use Rattle.plans.specs.Plans.{stations as count_of};
-ghost use Rattle.prices.specs.Priced.{Found, Priced, Writes, Written, price_in, prices_after};
+ghost use Rattle.prices.specs.Checked.{CheckedArePrices};
+ghost use Rattle.prices.specs.Priced.{Written};
+ghost use Rattle.prices.specs.Queues.{Enough, SameQueue, TooShort};
+ghost use Rattle.records.specs.Refusals.{number, place};
+ghost use Rattle.search.specs.Chains.{SameChains};
 
-use costs::Cents;
+pub mod checks;
+pub mod claims;
+pub mod queue;
+mod totals;
+
+pub use checks::is_claim_confirmed;
+pub use claims::claim;
+use costs::{Cents, CentsThenBikes};
 use network::Network;
+pub use queue::{Keyed, Queue};
 use records::Refusal;
-use search::{Label, Outcome};
+use search::{Chains, Label, Outcome};
 use steps::{Everywhere, InCents};
+use totals::write;
 
-// The total of a label, 0 where no walk arrives: none such is there where a search from everywhere has settled.
-fn price_of(label: Label<Cents>) -> i64
-    ensures { result ≡ price_in label }
-{
-    label.arrival.map_or(0, |arrival| arrival.total.0)
-}
-
-// Writes the totals of the labels, 0 where a label is missing.
-fn write(labels: &[Label<Cents>], prices: &mut [i64])
-    ensures { Writes (length prices.old) labels.now prices.old prices.new }
-{
-    // with `iter_mut().zip(labels)` nothing is known of what is written
-    for (station, price) in prices.iter_mut().enumerate() {
-        *price = labels.get(station).map_or(0, |label| price_of(*label));
-    }
-}
-
-// Writes the price of every station from the labels of a search in cents from everywhere, if it has
-// settled. Whatever the labels are, their totals are written, as many as there are stations and entries for them.
-pub fn write_prices<N: Network>(
-    net: &N,
-    outcome: Outcome,
-    labels: &[Label<Cents>],
-    prices: &mut [i64],
-)
-    ensures priced { (plan : List ℕ) → count_of (N.Network.meaning net.now) ≤ length labels.now → count_of (N.Network.meaning net.now) ≤ length prices.old → Found (N.Network.meaning net.now) plan outcome labels.now → Written (N.Network.meaning net.now) plan outcome prices.old prices.new }
-    ensures written { prices.new ≡ prices_after outcome (min (count_of (N.Network.meaning net.now)) (length prices.old)) labels.now prices.old }
-{
-    if let Outcome::Settled = outcome {
-        let stations = net.stations().min(prices.len());
-        write(labels, &mut prices[..stations]);
-    }
-}
-
-// Writes the price of every station, if no round trip of residual steps totals below zero, and answers
-// how the search for them ended. Amounts that the plan lacks count as 0; the labels are for the search to
-// work in.
+/// Writes the price of every station, in cents, if no round trip of residual steps totals below zero,
+/// and answers how the search for them ended. Amounts that the plan lacks count as 0. Prices are
+/// claimed from the potentials, of which the cents alone are looked at, and checked; where the check
+/// fails a search in rounds finds them. So potentials decide how long it takes, and nothing else;
+/// those that are missing count as 0. Labels, chains and queue are a workspace: what they hold before
+/// is not read, and what they hold after an accepted call is left open.
 pub fn prices<N: Network>(
     net: &N,
     plan: &[u16],
+    potentials: &[CentsThenBikes],
     labels: &mut [Label<Cents>],
+    chains: &mut Chains<'_>,
+    queue: &mut Queue<'_>,
     prices: &mut [i64],
 ) -> Result<Outcome, Refusal>
-    ensures { Priced (N.Network.meaning net.now) plan.now result labels.old labels.new prices.old prices.new }
+    ensures written { IfOk result (λ outcome.
+        Written (N.Network.meaning net.now) plan.now outcome prices.old prices.new) }
+    ensures enough { OnOk result
+        (Enough (N.Network.meaning net.now) labels.old chains.old queue.old prices.old) }
+    ensures beyond { drop (count_of (N.Network.meaning net.now)) labels.new
+        ≡ drop (count_of (N.Network.meaning net.now)) labels.old }
+
+    // refused, with nothing altered
+    ensures too_short { OnErr result
+        (TooShort (N.Network.meaning net.now) labels.old chains.old queue.old prices.old) }
+    ensures refused { IfErr result (λ refusal. (number refusal ≡ 11) × (place refusal ≡ 0)) }
+    ensures unaltered { OnErr result ((labels.new ≡ labels.old) × (chains.new ≡ chains.old)
+        × (queue.new ≡ queue.old) × (prices.new ≡ prices.old)) }
+
+    ensures chains_stay { SameChains chains.old chains.new }
+    ensures queue_stays { SameQueue queue.old queue.new }
 {
-    if prices.len() < net.stations() {
+    let stations = net.stations();
+    if labels.len() < stations
+        || chains.heads.len() < stations
+        || chains.nexts.len() < net.legs()
+        || queue.heap.len() < stations
+        || queue.places.len() < stations
+        || prices.len() < stations
+    {
         return Err(Refusal::SliceTooShort);
     }
-    let outcome = search::search(net, plan, &InCents, &Everywhere, labels)?;
-    write_prices(net, outcome, labels, prices);
+    claim(net, plan, potentials, labels, chains, queue);
+    let ranks = &mut *queue.places;
+    if is_claim_confirmed(net, plan, labels, ranks) {
+        write(labels, &mut prices[..stations]);
+        return Ok(Outcome::Settled);
+    }
+    let outcome = search::search(net, plan, &InCents, &Everywhere, labels, chains)?;
+    if let Outcome::Settled = outcome {
+        write(labels, &mut prices[..stations]);
+    }
     Ok(outcome)
 }
+
+/// Numbers of which none is above 0 and that no step undercuts are the prices, if at each station below
+/// 0 some step leads to its number by exactly its cents, from a station of lower rank. Then no round
+/// trip totals below zero either.
+pub fn checked_prices_are_prices()
+    ensures { CheckedArePrices }
+{}

@@ -8,7 +8,7 @@ use Rattle.network.specs.Nets.{Net}
 use Rattle.network.specs.Offices.{reported, remarked}
 use Rattle.plans.specs.Plans.{stations, Obeys, cents, difference, CheapestThenNearest}
 use Rattle.plans.specs.Cuts.{Cut}
-use Rattle.prices.specs.Priced.{Prices}
+use Rattle.plans.specs.Prices.{Prices}
 use Rattle.examples.specs.Networks.{T_shut}
 use Rattle.examples.specs.Examples.{OnlyBest}
 use Rattle.examples.proofs.Ways.{no_way}
@@ -23,7 +23,7 @@ use Rattle.tally.proofs.Meeting.{when_accepted}
 use Rattle.tally.proofs.Naming.{same_refused}
 use Rattle.tally.proofs.Written.{parts}
 use Rattle.run_examples.specs.After.{Outcome, After, AfterPlanning, AfterListing, NewPlan, CutOff, Alters, HandsOut}
-use Rattle.run_examples.proofs.Passing.{deserved, passes}
+use Rattle.run_examples.proofs.Passing.{fault_of, passes}
 use Rattle.run_examples.proofs.Writing.{prices_entered, prices_are, taken}
 
 -- a call that meets no fault: what is accepted is the outcome, and the run goes on from there
@@ -103,7 +103,7 @@ planned t plan c d q b =
 replaced : (t : Tally) (x y : Answer) (q q' : Papers) (u v : Tally) → x ≡ y → u ≡ v → PlanAnswers t y q q' v → PlanAnswers t x q q' u
 replaced t x y q q' u v e f a = subst (λ (z : Answer). PlanAnswers t z q q' u) (sym e) (subst (λ (w : Tally). PlanAnswers t y q q' w) (sym f) a)
 
-pub after_planning : (t : Tally) (plan : List ℕ) (c d : ℕ) (next : Tally → Type 0) → deserved t.meaning ≡ None → OnlyBest t.meaning t.plan plan c d
+pub after_planning : (t : Tally) (plan : List ℕ) (c d : ℕ) (next : Tally → Type 0) → fault_of t.meaning ≡ None → OnlyBest t.meaning t.plan plan c d
     → next (with_plan t plan) → AfterPlanning t (NewPlan t plan c d) next
 after_planning t plan c d next m b h l hp hk hs hl =
     allowed t (Plan l) (NewPlan t plan c d) next (passes t l m hp hk hs hl)
@@ -168,7 +168,7 @@ either t q q' m (inr f) g = refused t 1 0 q q' m ((cuts (1 ∷ 0 ∷ [])).1 (inr
 pub after_cut : (t : Tally) (next : Tally → Type 0) → t.meaning ≡ T_shut → next t → AfterPlanning t (CutOff t) next
 after_cut t next m h l hp hk hs hl =
     let no : Answer = Refused (NoPlanObeys 2) in
-    allowed t (Plan l) (CutOff t) next (passes t l (ap deserved m) hp hk hs hl)
+    allowed t (Plan l) (CutOff t) next (passes t l (ap fault_of m) hp hk hs hl)
     (λ q. (no, handed q (0 ∷ 1 ∷ []), t, record { answered = refl; cut = inl refl; prices_stay = refl; tally_stays = refl }))
     (λ x q q' u. (cut_off t x q q' u m, λ o. replaced t x no q q' u t o.answered o.tally_stays (either t q q' m o.cut o.prices_stay)))
     (λ x q q' u o. subst next (sym o.tally_stays) h)

@@ -1,6 +1,6 @@
 -- The runs, from call to call.
 use Rattle.std.proofs.Common.{◌≡◌, [], ◌∷◌, pos, negsuc, refl, arith}
-use Rattle.prices.specs.Priced.{price_at}
+use Rattle.plans.specs.Prices.{price_at}
 use Rattle.examples.specs.Networks.{T, U, T_shut, U_shut, T_limited, lone_yard}
 use Rattle.examples.proofs.Ways.{cheap_way, near_way, other_way, both_ways}
 use Rattle.examples.proofs.Priced.{price_at_start, price_on_the_way, price_at_end}

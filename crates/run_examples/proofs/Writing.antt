@@ -6,7 +6,7 @@ use Rattle.plans.specs.Residuals.{forward, backward, CentsStep}
 use Rattle.plans.specs.Prices.{Price}
 use Rattle.plans.proofs.Around.{no_cents_trip}
 use Rattle.plans.proofs.Pricing.{exists, reduced}
-use Rattle.prices.specs.Priced.{price_at, Prices}
+use Rattle.plans.specs.Prices.{price_at, Prices}
 use Rattle.examples.proofs.Places.{below_three}
 use Rattle.tally.proofs.Written.{parts}
 use Rattle.run_examples.specs.After.{Holds}

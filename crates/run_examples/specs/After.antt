@@ -14,8 +14,8 @@ use Rattle.std.specs.Prelude.{◌≡◌, ℕ, ◌<◌, ◌≤◌, ◌⊎◌, ◌
 use Rattle.records.specs.declared.refusal.Refusal.TheVariants.{NoPlanObeys}
 use Rattle.network.specs.Nets.{Net}
 use Rattle.plans.specs.Plans.{stations}
-use Rattle.prices.specs.Priced.{price_at, Prices}
-use Rattle.checks.specs.declared.lengths.Lengths.{Lengths}
+use Rattle.plans.specs.Prices.{price_at, Prices}
+use Rattle.planning_rules.specs.declared.lengths.Lengths.{Lengths}
 use Rattle.tally.specs.Tallies.{Tally, with_meaning, with_plan, with_stations}
 use Rattle.tally.specs.Follows.{Papers, papers, written, Follows}
 use Rattle.tally.specs.declared.answer.Answer.{Answer}

@@ -4,3 +4,5 @@ pub mod Rounding
 pub mod Ending
 pub mod Writing
 pub mod Stepping
+pub mod Chaining
+pub mod Visiting

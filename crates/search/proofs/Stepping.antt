@@ -1,5 +1,5 @@
 -- Steps of a plan on a network as steps by their direction and leg, and the rounds over them.
-use Rattle.std.proofs.Common.{◌≡◌, ℕ, suc, ◌+◌, ◌-◌, ◌<◌, ◌≤◌, Bool, true, false, List, drop, ◌∙◌, subst, arith}
+use Rattle.std.proofs.Common.{◌≡◌, ℕ, suc, ◌+◌, ◌-◌, ◌<◌, ◌≤◌, Bool, true, false, List, ◌++◌, length, take, drop, length-take, ◌∙◌, subst, arith}
 use Rattle.std.specs.Prelude.{max}
 use Rattle.network.specs.Nets.{Net}
 use Rattle.theory.specs.declared.Grouped.{Ghosts as Kind}
@@ -12,14 +12,16 @@ use Rattle.plans.specs.Residuals as residuals
 use Rattle.steps.specs.declared.load.Load.{Load}
 use Rattle.steps.specs.declared.step.Step.{Step}
 use Rattle.steps.specs.Loads.{Over}
-use Rattle.search.specs.Searches.{From, StepOf, OverOf, Settles}
+use Rattle.search.specs.Searches.{From, StepOf, OverOf, Settles, Answer}
 use Rattle.search.specs.Sweeps.{Sweeps}
 use Rattle.search.specs.Rounds.{AfterOf, LateOf, Begins, Commits, RoundMore, Ends, Still}
 use Rattle.search.specs.declared.label.Label.{Label}
+use Rattle.search.specs.declared.outcome.Outcome.{Outcome}
 use Rattle.search.specs.declared.outcome.Outcome.TheVariants.{Settled, RoundTrip}
 use Rattle.search.proofs.Sweeping.{sweep_none}
 use Rattle.search.proofs.Rounding.{round_more, round_still, round_late}
 use Rattle.search.proofs.Ending.{settles, late_trip, after_none}
+use Rattle.search.proofs.Writing.{begins_before}
 
 module _ {A : Type 0} (net : Net) (plan : List ℕ) (cost : Direction → ℕ → A) where
   pub ends : (u v : ℕ) (c : A) → residuals.Step net plan cost u v c → (u < stations net) × (v < stations net)
@@ -56,6 +58,17 @@ module _ {C : Type 0} (K : Kind C) (size : C → ℕ) (net : Net) (plan : List �
   pub begun_of : (old ls : List (Label C)) → Begins K size (stations net) f old ls → AfterOf K size net plan cost f 0 ls
   begun_of old ls b =
       after_none K size (stations net) (From net f) (StepOf K net plan cost) (OverOf K net plan cost) (ends net plan _) (into net plan _) f (λ v h q. (h, q)) (λ v q. q) old ls b
+
+  -- the rounds from the first labels, which stand before the others
+  pub ended_of : (r : Outcome) (n : ℕ) (labels ls after : List (Label C)) → n ≡ stations net → n ≤ length labels → length ls ≡ length (take n labels)
+      → Begins K size (length (take n labels)) f (take n labels) ls → Ends K size net plan cost f r (ls ++ drop n labels) after
+      → Answer K net plan cost f r after × (drop (stations net) after ≡ drop (stations net) labels)
+  ended_of r n labels ls after e few long b ended =
+      let first = ls ++ drop n labels in
+      let b' : Begins K size (stations net) f labels first =
+      subst (λ m. Begins K size m f labels first) e (begins_before n labels ls few (omega (arith, length-take n labels)) K size f b) in
+      let p = ended (begun_of labels first b') in
+      (p.0, p.1 ∙ b'.beyond)
 
   -- ---- the loop over rounds: after i of them, the last of which changed a label
   abbrev pub SoFar : ℕ → List (Label C) → List (Label C) → Type 0

@@ -1,5 +1,5 @@
--- One round: one step more, one leg more.
-use Rattle.std.proofs.Common.{◌≡◌, ℕ, ◌+◌, ◌^◌, ◌<◌, ◌≤◌, List, length, set, Some, None, sym, refl, ap, ◌∙◌, subst, inl, inr, arith, length-set}
+-- One round: one step more.
+use Rattle.std.proofs.Common.{◌≡◌, ℕ, ◌+◌, ◌^◌, ◌<◌, ◌≤◌, List, length, set, Some, None, sym, refl, ap, ◌∙◌, inl, inr, arith, length-set}
 use Rattle.std.proofs.lemmas.Option.{none-some, same_Some}
 use native.Mathlib.Decide.{ℕ_discrete}
 use Rattle.std.proofs.lemmas.List.{drop-set-lt}
@@ -15,10 +15,10 @@ use Rattle.steps.specs.declared.step.Step.{Step}
 use Rattle.steps.specs.Loads.{load_of}
 use Rattle.search.specs.Labels.{label_at, best, with_better, fresh}
 use Rattle.search.specs.Searches.{OverOf}
-use Rattle.search.specs.Sweeps.{Offered, Falls, Found, Sweep, Relaxes, CrossesBy, Crosses, Sweeps, SweepOf, PassedOf}
+use Rattle.search.specs.Sweeps.{Offered, Falls, Found, Sweep, Relaxes}
 use Rattle.search.specs.declared.label.Arrival.{Arrival}
 use Rattle.search.specs.declared.label.Label.{Label}
-use Rattle.search.proofs.Optional.{fresh_some, fresh_is, label_same, label_other, undercut, under_lowest}
+use Rattle.search.proofs.Optional.{fresh_some, label_same, label_other, undercut, under_lowest}
 
 -- ---- a walk that was offered to a label
 module _ {C : Type 0} (K : Kind C) (a b : List (Label C)) (v : ℕ) (x : Arrival C) (inside : v < length a) where
@@ -88,13 +88,13 @@ module _ {C : Type 0} (K : Kind C) (size : C → ℕ) (n : ℕ) (T : Step → �
 
   -- a step from a changed label, whose total and fee are summed and offered
   pub sweep_fresh : (old a b : List (Label C)) (u v : ℕ) (c : K.Member) (l : Step) (total fee sum : C) → u < n → v < n → v < length a → T l u v c → fresh (label_at old u) ≡ Some total → K.worth fee ≡ c → size fee ≤ 4294967295
-      → (size total + size fee ≤ 2 ^ 40 → (K.worth sum ≡ K.group.add (K.worth total) (K.worth fee)) × (size sum ≤ size total + size fee)) → Offered K a b v (record { total = sum; last = Some l }) → Swept old a
+      → (size total ≤ 2 ^ 40 → size fee ≤ 2 ^ 40 → (K.worth sum ≡ K.group.add (K.worth total) (K.worth fee)) × (size sum ≤ size total + size fee)) → Offered K a b v (record { total = sum; last = Some l }) → Swept old a
       → Swept old b × AtMost K.group (best K (label_at b v)) (K.group.add (K.worth total) c)
   sweep_fresh old a b u v c l total fee sum hu hv inside t h e z exact o s =
       let f = fresh_some (label_at old u).changed (label_at old u).arrival total h in
       let y = f.1.0 in
       let bound : size total + 4294967295 ≤ 2 ^ 40 = rw f.1.2 at (s.small u y hu f.1.1) in
-      let x = exact (omega arith) in
+      let x = exact (omega arith) (omega arith) in
       let q : K.worth sum ≡ K.group.add (K.worth total) c = x.0 ∙ ap (λ m. K.group.add (K.worth total) m) e in (
         sweep_offered old a u v c l (record { total = sum; last = Some l }) y hv f.1.1 refl t (rw f.1.2 q) (rw f.1.2 (omega arith)) s b inside o,
         rw (← q) (offered_best K a b v (record { total = sum; last = Some l }) inside o),
@@ -114,7 +114,7 @@ module _ {C : Type 0} (K : Kind C) (size : C → ℕ) (net : Net) (plan : List �
   -- a step whose walk was offered to the label at its end
   pub step_offered : (s : Step) (total fee sum : C) (a b : List (Label C)) → Joined net s.leg → stations net ≤ length a → 0 < residual s.direction (leg_at net s.leg) (amount plan s.leg)
       → K.worth fee ≡ K.worth (cost s.direction (load_of net plan s.leg)) → size fee ≤ 4294967295
-      → (size total + size fee ≤ 2 ^ 40 → (K.worth sum ≡ K.group.add (K.worth total) (K.worth fee)) × (size sum ≤ size total + size fee)) → Offered K a b (head s.direction (leg_at net s.leg)) (record { total = sum; last = Some s })
+      → (size total ≤ 2 ^ 40 → size fee ≤ 2 ^ 40 → (K.worth sum ≡ K.group.add (K.worth total) (K.worth fee)) × (size sum ≤ size total + size fee)) → Offered K a b (head s.direction (leg_at net s.leg)) (record { total = sum; last = Some s })
       → Relaxes K size net plan cost s total a b
   step_offered s total fee sum a b j long takes w z exact o old r swept =
       let u = tail s.direction (leg_at net s.leg) in
@@ -127,50 +127,3 @@ module _ {C : Type 0} (K : Kind C) (size : C → ℕ) (net : Net) (plan : List �
         offered_falls K a b v _ inside o,
         λ x c t. rw (← t.ends, t.costs) p.1,
       )
-
-  -- the step of one direction over a leg, where the label at its beginning is fresh
-  pub by_fresh : (d : Direction) (k : ℕ) (total : C) (a b : List (Label C)) → fresh (label_at a (tail d (leg_at net k))) ≡ Some total → Relaxes K size net plan cost (record { direction = d; leg = k }) total a b → CrossesBy K size net plan cost d k a b
-  by_fresh d k total a b h r old s =
-      let u = tail d (leg_at net k) in
-      let f : fresh (label_at old u) ≡ Some total = rw (← (s.changed u), ← (s.arrival u)) h in
-      let p = r old f s in (
-        p.0,
-        p.1,
-        λ u' y i j v c t.
-            let g : fresh (label_at old u') ≡ Some total = rw t.begins at f in
-            let q : y.total ≡ total = same_Some _ _ (sym (fresh_is (label_at old u').changed (label_at old u').arrival y i j) ∙ g) in
-            rw q (p.2 v c (record { joined = t.joined; begins = refl; ends = t.ends; takes = t.takes; costs = t.costs })),
-      )
-
-  pub leg_crossed : (k : ℕ) (a b c : List (Label C)) → CrossesBy K size net plan cost Forth k a b → CrossesBy K size net plan cost Back k b c → Crosses K size net plan cost k a c
-  leg_crossed k a b c forth back old s =
-      let p = forth old s in
-      let q = back old p.0 in (
-        q.0,
-        λ v t z. q.1 v t (p.1 v t z),
-        by (λ u y i j v d t. q.1 v _ (p.2 u y i j v d t)) q.2,
-      )
-    where
-      by : PassedOf K size net plan cost (record { direction = Forth; leg = k }) old c → PassedOf K size net plan cost (record { direction = Back; leg = k }) old c
-          → (d : Direction) → PassedOf K size net plan cost (record { direction = d; leg = k }) old c
-      by m n Forth = m
-      by m n Back = n
-
-  -- what relaxing the steps of all legs below m does
-  abbrev pub Passes : ℕ → List (Label C) → List (Label C) → Type 0
-  Passes m before after = (old : List (Label C)) → SweepOf K size net plan cost old before → SweepOf K size net plan cost old after × ((s : Step) → s.leg < m → PassedOf K size net plan cost s old after)
-
-  pub passes_more : (m : ℕ) (a b c : List (Label C)) → Passes m a b → Crosses K size net plan cost m b c → Passes (m + 1) a c
-  passes_more m a b c passed crossed old s =
-      let p = passed old s in
-      let q = crossed old p.0 in (
-        q.0,
-        λ l h. elim (ℕ_discrete l.leg m) [
-          | yes e ↦ subst (λ k. PassedOf K size net plan cost (record { direction = l.direction; leg = k }) old c) (sym e) (q.2 l.direction)
-          | no n ↦ λ u y i j v d t. q.1 v _ (p.1 l (omega arith) u y i j v d t)
-        ],
-      )
-
-  -- every step goes over a leg
-  pub passes_all : (a b : List (Label C)) → Passes (length net.legs) a b → Sweeps K size net plan cost (stations net) a b
-  passes_all a b passed old s = let p = passed old s in (p.0, λ u h l y i j v c t. p.1 l t.joined.there u y i j v c t)

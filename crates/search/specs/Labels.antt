@@ -3,13 +3,15 @@
 --   label_at     the label of a station
 --   held         the worth of an arrival, if there is one
 --   best         the worth of what a label has found or holds
---   fresh, fresh_of           the total of a label that the round before changed, and of its two parts
+--   fresh, fresh_of   the total of a label that the round before changed, and of its two parts
 --   committed, committed_by   a label at the end of a round, and of its two parts
 --   with_better  a label with what the round has found
 --   begun        a label before the first round
+--   last_of, last_at   the last step of an arrival, and of the label of a station, if there is any
 use Rattle.std.specs.Prelude.{ℕ, Bool, true, false, List, Some, None, Option, slice_index_or}
 use Rattle.std.specs.Option.{option_or}
 use Rattle.theory.specs.declared.Grouped.{Ghosts as Kind}
+use Rattle.steps.specs.declared.step.Step.{Step}
 use Rattle.search.specs.declared.label.Arrival.{Arrival}
 use Rattle.search.specs.declared.label.Label.{Label}
 
@@ -51,4 +53,16 @@ with_better l x = record { arrival = l.arrival; better = Some x; changed = l.cha
 -- by whether a walk may start there, and a zero
 abbrev pub begun : {C : Type 0} → Bool → C → Label C
 begun false z = unlabelled
-begun true z = record { arrival = Some (record { total = z; last = None }); better = None; changed = true }
+begun true z = record {
+  arrival = Some (record { total = z; last = None });
+  better = None;
+  changed = true;
+}
+
+-- none of a walk without steps
+abbrev pub last_of : {C : Type 0} → Option (Arrival C) → Option Step
+last_of None = None
+last_of (Some x) = x.last
+
+abbrev pub last_at : {C : Type 0} → List (Label C) → ℕ → Option Step
+last_at ls v = last_of (label_at ls v).arrival

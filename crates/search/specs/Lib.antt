@@ -1,4 +1,5 @@
 pub mod Labels
+pub mod Chains
 pub mod Searches
 pub mod Sweeps
 pub mod Rounds

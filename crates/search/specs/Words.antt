@@ -16,7 +16,7 @@ abbrev pub last_text : Option Step → List ℕ
 last_text None = codes "start"
 last_text (Some s) = step_text s
 
--- `TOTAL, start` or `TOTAL, STEP`; where the bytes of the total are not stated, its own are not either
+-- `TOTAL, start` or `TOTAL, STEP`; where the bytes of the total are not stated, these are not either
 abbrev pub arrival_text : Option (List ℕ) → Option Step → Option (List ℕ)
 arrival_text None last = None
 arrival_text (Some total) last = Some (total ++ (codes ", " ++ last_text last))

@@ -1,5 +1,5 @@
 // What a search knows of each station, kept in a lent slice with one entry for each.
-ghost use Rattle.std.specs.Prelude.{◌≡◌, Decides};
+ghost use Rattle.std.specs.Prelude.{◌≡◌, ◌↔◌, IsTrue};
 ghost use Rattle.theory.specs.Walks.{AtMost};
 ghost use Rattle.search.specs.Labels.{begun, best, committed, fresh, label_at};
 ghost use Rattle.search.specs.Words.{arrival_text};
@@ -8,14 +8,14 @@ use costs::Cost;
 use std::fmt;
 use steps::Step;
 
-// How a walk arrives: its total, and its last step, if it has gone any.
+/// How a walk arrives: its total, and its last step, if it has gone any.
 #[derive(Clone, Copy, PartialEq, Eq, Debug)]
 pub struct Arrival<C> {
     pub total: C,
     pub last: Option<Step>,
 }
 
-// `TOTAL, start` or `TOTAL, STEP`
+/// `TOTAL, start` or `TOTAL, STEP`.
 impl<C: fmt::Display> fmt::Display for Arrival<C> {
     ghost output = { λ arrival. arrival_text (C.Display.output arrival.total) arrival.last };
 
@@ -27,14 +27,13 @@ impl<C: fmt::Display> fmt::Display for Arrival<C> {
     }
 }
 
-// The best walk so far, what the current round has found beyond it, and whether the round before
-// changed the label. By default no walk is known.
+/// The best walk so far, what the current round has found beyond it, and whether the round before
+/// changed the label. By default no walk is known.
 #[derive(Clone, Copy, PartialEq, Eq, Debug)]
 #[derive_where(Default)]
 pub struct Label<C> {
     pub arrival: Option<Arrival<C>>,
     pub better: Option<Arrival<C>>,
-    // no option of the arrival: a label that did not change still holds one
     pub changed: bool,
 }
 
@@ -50,7 +49,8 @@ impl<C: Cost> Label<C> {
 
     // Whether the label has found or holds a total that is no more than the given one.
     pub(crate) fn is_as_low(&self, total: C) -> bool
-        ensures { Decides result (AtMost C.Grouped.group (best C.Grouped self.now) (C.Grouped.worth total)) }
+        ensures { IsTrue result
+            ↔ AtMost C.Grouped.group (best C.Grouped self.now) (C.Grouped.worth total) }
     {
         // `better.or(arrival)` takes 8 instructions more at every step of a round
         match self.better {
@@ -89,7 +89,7 @@ impl<C: Cost> Label<C> {
 }
 
 // The total of the label of a station, if the round before changed it.
-pub fn fresh_at<C: Cost>(labels: &[Label<C>], station: usize) -> Option<C>
+pub(crate) fn fresh_at<C: Cost>(labels: &[Label<C>], station: usize) -> Option<C>
     ensures { result ≡ fresh (label_at labels.now station) }
 {
     labels.get(station)?.fresh_total()

@@ -4,15 +4,16 @@ ghost use Rattle.search.specs.Words.{outcome_words};
 
 use std::fmt;
 
+/// What a search has found out.
 #[derive(Clone, Copy, PartialEq, Eq, Debug)]
 pub enum Outcome {
-    // every label is the least total of the walks to its station
+    /// every label is the least total of the walks to its station
     Settled,
-    // a round trip that totals below zero can be reached from a start
+    /// a round trip that totals below zero can be reached from a start
     RoundTrip,
 }
 
-// `settled`, or `a round trip below zero`
+/// `settled`, or `a round trip below zero`.
 impl fmt::Display for Outcome {
     ghost output = { λ outcome. Some (outcome_words outcome) };
 

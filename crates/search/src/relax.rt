@@ -11,34 +11,35 @@ use steps::{Fees, Load, Step};
 
 // The residual network of a plan: the legs, the amounts they carry, and what steps cost.
 #[derive_where(Clone, Copy)]
-pub struct Residual<'a, N, F> {
-    pub net: &'a N,
-    pub plan: &'a [u16],
-    pub fees: &'a F,
+pub(crate) struct Residual<'a, N, F> {
+    pub(crate) net: &'a N,
+    pub(crate) plan: &'a [u16],
+    pub(crate) fees: &'a F,
 }
 
-// Offers a walk to the label of the station where it ends, if the station has one.
+// Offers a walk to the label of the station where it ends.
 #[inline(always)]
 fn offer<C: Cost>(labels: &mut [Label<C>], station: usize, offered: Arrival<C>)
-    ensures { station < length labels.old → Offered C.Grouped labels.old labels.new station offered }
+    requires { station < length labels.old }
+    ensures { Offered C.Grouped labels.old labels.new station offered }
 {
-    let Some(label) = labels.get(station) else {
-        return;
-    };
-    // by index, since of a write through `get_mut` only the length is known after it; `slices::put` would write the whole label
-    if !label.is_as_low(offered.total) {
+    // by index: of a write through `get_mut` only the length is known after it
+    if !labels[station].is_as_low(offered.total) {
         labels[station].better = Some(offered);
     }
 }
 
 impl<N: Network, F> Residual<'_, N, F> {
-    // Relaxes a step over a leg between stations, from the total where it begins, if a bike can go along it. Inline, so
-    // that where its direction is known nothing asks for it.
+    // Relaxes a step from the total where it begins, if a bike can go along it. Inline, so that
+    // where its direction is known nothing asks for it.
     #[inline(always)]
-    pub fn relax<C: Cost>(&self, step: Step, total: C, labels: &mut [Label<C>])
+    pub(crate) fn relax<C: Cost>(&self, step: Step, total: C, labels: &mut [Label<C>])
     where
         F: Fees<C>,
-        ensures { Joined (N.Network.meaning self.now.net.now) step.leg → count_of (N.Network.meaning self.now.net.now) ≤ length labels.old → Relaxes C.Grouped C.Cost.size (N.Network.meaning self.now.net.now) self.now.plan.now (F.Fees.cost self.now.fees.now) step total labels.old labels.new }
+        requires joined { Joined (N.Network.meaning self.now.net.now) step.leg }
+        requires long { count_of (N.Network.meaning self.now.net.now) ≤ length labels.old }
+        ensures { Relaxes C.Grouped C.Cost.size (N.Network.meaning self.now.net.now)
+            self.now.plan.now (F.Fees.cost self.now.fees.now) step total labels.old labels.new }
     {
         let Some(load) = Load::of(self.net, self.plan, step.leg) else {
             return;

@@ -4,15 +4,14 @@ ghost use Rattle.plans.specs.Plans.{amount, in_force};
 
 use records::{Leg, Mark};
 
-// The amount of a leg by its number; one that is missing counts as 0. It is `get` and `unwrap_or` of the
-// library under a name. `Draft::left_at` is the same of another type: one generic function over both would be `get` and `unwrap_or` again.
+/// The amount of a leg by its number, in bikes; one that is missing counts as 0.
 pub fn amount_at(amounts: &[u16], number: usize) -> u16
     ensures { result ≡ amount amounts.now number }
 {
     amounts.get(number).copied().unwrap_or(0)
 }
 
-// The capacity of an open leg, 0 of a shut one.
+/// The capacity of an open leg, 0 of a shut one.
 pub fn in_force(leg: Leg) -> u16
     ensures { result ≡ in_force leg }
 {

@@ -9,18 +9,18 @@ use crate::load::Load;
 use costs::{Bikes, Cents, CentsThenBikes, Cost, Pair};
 use plans::Direction;
 
-// What a step over a leg costs, by its direction, the leg and what it carries.
-// No part of it is further from zero than a charge can be. A trait and no closure: what it promises cites a ghost member, which
-// a closure has not.
+/// What a step over a leg costs, by its direction, the leg and what it carries.
+/// No part of it is further from zero than a charge can be.
 pub trait Fees<C: Cost> {
     ghost cost: { Self → Direction → Load → C };
 
-    // One bike more over a leg, or one less.
+    /// One bike more over a leg, or one less.
     fn fee(&self, direction: Direction, load: Load) -> C
-        ensures { (C.Grouped.worth result ≡ C.Grouped.worth (cost self.now direction load)) × (C.Cost.size result ≤ 4294967295) };
+        ensures worth { C.Grouped.worth result ≡ C.Grouped.worth (cost self.now direction load) }
+        ensures small { C.Cost.size result ≤ 4294967295 };
 }
 
-// Steps cost cents: the charge forth, the negated charge back.
+/// Steps cost cents: the charge forth, the negated charge back.
 #[derive(Clone, Copy, PartialEq, Eq, Debug)]
 pub struct InCents;
 
@@ -37,7 +37,7 @@ impl Fees<Cents> for InCents {
     }
 }
 
-// Steps cost cents and bikes of difference from a standing plan, whose missing amounts count as 0.
+/// Steps cost cents and bikes of difference from a standing plan, whose missing amounts count as 0.
 #[derive(Clone, Copy, PartialEq, Eq, Debug)]
 pub struct InBoth<'a> {
     pub standing: &'a [u16],
@@ -60,12 +60,12 @@ impl<'a> Fees<CentsThenBikes> for InBoth<'a> {
     }
 }
 
-// Fees in cents are the cents of residual steps.
+/// Fees in cents are the cents of residual steps.
 pub fn in_cents_are_step_cents()
     ensures { CentsAreStepCents }
 {}
 
-// Fees in both are the cents and the bikes of difference of residual steps.
+/// Fees in both are the cents and the bikes of difference of residual steps.
 pub fn in_both_are_step_both()
     ensures { BothAreStepBoth }
 {}

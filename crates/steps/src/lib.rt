@@ -1,5 +1,5 @@
-// Residual steps of a plan: which there are, what they cost, where they may start, and the amounts and capacities
-// that decide it.
+// Residual steps of a plan: which there are, what they cost, where they may start, and the amounts
+// and capacities that decide it.
 #![tactic(auto)]
 
 pub mod amounts;

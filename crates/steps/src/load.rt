@@ -9,8 +9,8 @@ use network::Network;
 use plans::Direction;
 use records::Leg;
 
-// A leg with its number, and the bikes that it carries under a plan. A direction is handed in with it: one load serves both steps over
-// its leg.
+/// A leg with its number, and the bikes that it carries under a plan. One load serves both steps
+/// over its leg: a method takes the direction.
 #[derive(Clone, Copy, PartialEq, Eq, Debug)]
 pub struct Load {
     pub number: usize,
@@ -18,9 +18,11 @@ pub struct Load {
     pub amount: u16,
 }
 
-// A leg by its number, if both its ends are stations: no other leg has steps.
+/// A leg by its number, if both its ends are stations: no other leg has steps.
 pub fn joined_leg<N: Network>(net: &N, number: usize) -> Option<Leg>
-    ensures { MatchOption result (Joined (N.Network.meaning net.now) number → ⊥) (λ leg. Joined (N.Network.meaning net.now) number × (leg_at (N.Network.meaning net.now) number ≡ leg)) }
+    ensures { MatchOption result (¬ Joined (N.Network.meaning net.now) number)
+        (λ leg. Joined (N.Network.meaning net.now) number
+        × (leg_at (N.Network.meaning net.now) number ≡ leg)) }
 {
     let Some(leg) = net.leg(number) else {
         return None;
@@ -31,9 +33,13 @@ pub fn joined_leg<N: Network>(net: &N, number: usize) -> Option<Leg>
 }
 
 impl Load {
-    // A leg with what a plan has it carry.
+    /// A leg with what a plan has it carry.
     pub fn new(number: usize, leg: Leg, plan: &[u16]) -> Load
-        ensures { result ≡ record { number = number; leg = leg; amount = amount plan.now number } }
+        ensures { result ≡ record {
+          number = number;
+          leg = leg;
+          amount = amount plan.now number;
+        } }
     {
         Load {
             number,
@@ -42,9 +48,11 @@ impl Load {
         }
     }
 
-    // A leg by its number, with what a plan has it carry.
+    /// A leg by its number, with what a plan has it carry.
     pub fn of<N: Network>(net: &N, plan: &[u16], number: usize) -> Option<Load>
-        ensures { MatchOption result (length (N.Network.meaning net.now).legs ≤ number) (λ load. (number < length (N.Network.meaning net.now).legs) × (load ≡ load_of (N.Network.meaning net.now) plan.now number)) }
+        ensures { MatchOption result (length (N.Network.meaning net.now).legs ≤ number)
+            (λ load. (number < length (N.Network.meaning net.now).legs)
+            × (load ≡ load_of (N.Network.meaning net.now) plan.now number)) }
     {
         let Some(leg) = net.leg(number) else {
             return None;
@@ -52,9 +60,11 @@ impl Load {
         Some(Load::new(number, leg, plan))
     }
 
-    // The same, if both ends of the leg are stations.
+    /// The same, if both ends of the leg are stations.
     pub fn joined<N: Network>(net: &N, plan: &[u16], number: usize) -> Option<Load>
-        ensures { MatchOption result (Joined (N.Network.meaning net.now) number → ⊥) (λ load. Joined (N.Network.meaning net.now) number × (load ≡ load_of (N.Network.meaning net.now) plan.now number)) }
+        ensures { MatchOption result (¬ Joined (N.Network.meaning net.now) number)
+            (λ load. Joined (N.Network.meaning net.now) number
+            × (load ≡ load_of (N.Network.meaning net.now) plan.now number)) }
     {
         let Some(joined) = joined_leg(net, number) else {
             return None;
@@ -62,7 +72,7 @@ impl Load {
         Some(Load::new(number, joined, plan))
     }
 
-    // The station where a step begins.
+    /// The station where a step begins.
     #[inline(always)]
     pub fn tail(self, direction: Direction) -> u16
         ensures { result ≡ tail direction self.leg }
@@ -73,7 +83,7 @@ impl Load {
         }
     }
 
-    // The station where a step ends.
+    /// The station where a step ends.
     #[inline(always)]
     pub fn head(self, direction: Direction) -> u16
         ensures { result ≡ head direction self.leg }
@@ -84,7 +94,7 @@ impl Load {
         }
     }
 
-    // How many bikes can go along a step.
+    /// How many bikes can go along a step: its residual capacity.
     #[inline(always)]
     pub fn residual(self, direction: Direction) -> u16
         ensures { result ≡ residual direction self.leg self.amount }

@@ -3,7 +3,7 @@ ghost use Rattle.std.specs.Prelude.{true, false, slice_index_or};
 
 use network::Belongs;
 
-// At every station.
+/// At every station.
 #[derive(Clone, Copy, PartialEq, Eq, Debug)]
 pub struct Everywhere;
 
@@ -15,7 +15,7 @@ impl Belongs for Everywhere {
     }
 }
 
-// At the marked stations; a mark that is missing counts as not set.
+/// At the marked stations; a mark that is missing counts as not set.
 #[derive(Clone, Copy, PartialEq, Eq, Debug)]
 pub struct Marked<'a>(pub &'a [bool]);
 

@@ -5,14 +5,14 @@ ghost use Rattle.steps.specs.Texts.{step_text};
 use plans::Direction;
 use std::fmt;
 
-// Which way over which leg.
+/// Which way over which leg, by its number.
 #[derive(Clone, Copy, PartialEq, Eq, Debug)]
 pub struct Step {
     pub direction: Direction,
     pub leg: usize,
 }
 
-// `forth over LEG` or `back over LEG`; a direction is never printed alone, so its words stand here
+/// `forth over LEG` or `back over LEG`.
 impl fmt::Display for Step {
     ghost output = { λ step. Some (step_text step) };
 

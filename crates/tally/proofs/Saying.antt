@@ -3,14 +3,13 @@ use Rattle.std.proofs.Common.{◌≡◌, ℕ, ◌<◌, Bool, true, false, cond, 
 use Rattle.std.specs.List.{slice_get}
 use Rattle.std.specs.Option.{option_map, option_or}
 use Rattle.std.proofs.lemmas.Option.{none-some}
-use Rattle.records.specs.Refusals.{number, place}
+use Rattle.records.specs.Refusals.{number}
 use Rattle.records.specs.declared.refusal.Refusal.{Refusal}
-use Rattle.records.specs.declared.refusal.Refusal.TheVariants.{SenselessLeg, BalanceTooLarge}
 use Rattle.records.specs.declared.leg.Mark.TheVariants.{Open, Shut}
 use Rattle.network.specs.Nets.{Net}
 use Rattle.network.specs.Offices.{reportable, has_mark}
-use Rattle.checks.specs.Checks.{lowest, too_short, senseless, too_large, uneven, checked}
-use Rattle.checks.specs.declared.lengths.Lengths.{Lengths}
+use Rattle.planning_rules.specs.Checks.{lowest, too_short, senseless, too_large, uneven, planning_fault}
+use Rattle.planning_rules.specs.declared.lengths.Lengths.{Lengths}
 use Rattle.plans.specs.Plans.{stations, Obeys}
 use Rattle.tally.specs.Tallies.{Tally}
 use Rattle.tally.specs.Answers.{refusal_of}
@@ -75,33 +74,25 @@ cond_low : {X : Type 0} (n : X → ℕ) (b : Bool) (o u : Option X) → Low n o 
 cond_low n true o u p q = p
 cond_low n false o u p q = q
 
-option_or_low : (o u : Option Refusal) → Low number o → Low number u → Low number (option_or o u)
+option_or_low : (o u : Option (ℕ × ℕ)) → Low told o → Low told u → Low told (option_or o u)
 option_or_low None u p q = q
-option_or_low (Some e) u p q = p
+option_or_low (Some f) u p q = p
 
-mapped_low : (o : Option Refusal) → Low number o → Low told (option_map (λ (e : Refusal). (number e, place e)) o)
-mapped_low None p = tt
-mapped_low (Some e) p = p
+placed_low : (n : ℕ) (o : Option ℕ) → n < 15 → Low told (option_map (λ (k : ℕ). (n, k)) o)
+placed_low n None h = tt
+placed_low n (Some k) h = h
 
-senseless_low : (o : Option ℕ) → Low number (option_map SenselessLeg o)
-senseless_low None = tt
-senseless_low (Some k) = lit< tt
-
-too_large_low : (o : Option ℕ) → Low number (option_map BalanceTooLarge o)
-too_large_low None = tt
-too_large_low (Some k) = lit< tt
-
-checked_low : (net : Net) (l : Lengths) → Low number (checked net l)
-checked_low net l =
-    cond_low number (too_short net l) _ _ (lit< tt)
-    (option_or_low _ _ (senseless_low (lowest (senseless net) (length net.legs)))
-    (option_or_low _ _ (too_large_low (lowest (too_large net) (stations net))) (cond_low number (uneven net) _ _ (lit< tt) tt)))
+planning_low : (net : Net) (l : Lengths) → Low told (planning_fault net l)
+planning_low net l =
+    cond_low told (too_short net l) _ _ (lit< tt)
+    (option_or_low _ _ (placed_low 12 (lowest (senseless net) (length net.legs)) (lit< tt))
+    (option_or_low _ _ (placed_low 13 (lowest (too_large net) (stations net)) (lit< tt)) (cond_low told (uneven net) _ _ (lit< tt) tt)))
 
 fault_low : (t : Tally) (call : Call) → Low told (fault t call)
 fault_low t (Report s b) = cond_low told (ltb s t.meaning.open_stations) _ _ (cond_low told (reportable b) _ _ tt (lit< tt)) (lit< tt)
 fault_low t (Close k) = cond_low told (ltb k t.meaning.road_legs) _ _ (cond_low told (has_mark (slice_get t.meaning.legs k) Shut) _ _ (lit< tt) tt) (lit< tt)
 fault_low t (Reopen k) = cond_low told (ltb k t.meaning.road_legs) _ _ (cond_low told (has_mark (slice_get t.meaning.legs k) Open) _ _ (lit< tt) tt) (lit< tt)
-fault_low t (Plan l) = mapped_low (checked t.meaning l) (checked_low t.meaning l)
+fault_low t (Plan l) = planning_low t.meaning l
 fault_low t (ListStations n) = cond_low told (ltb n t.meaning.open_stations) _ _ (lit< tt) tt
 fault_low t (ListRuns n) = cond_low told (ltb n (length t.meaning.legs)) _ _ (lit< tt) tt
 fault_low t (Read k) = tt

@@ -8,13 +8,11 @@
 --   Follows    what a call answers and leaves
 -- A prime marks what slices and the tally are afterwards.
 use Rattle.std.specs.Prelude.{◌≡◌, ℕ, cond, List, ◌++◌, length, drop, ℤ, Some, None, Option, nat_lt}
-use Rattle.std.specs.Option.{option_map}
 use Rattle.records.specs.Refusals.{number, place}
 use Rattle.records.specs.declared.leg.Mark.TheVariants.{Open, Shut}
-use Rattle.records.specs.declared.refusal.Refusal.{Refusal}
 use Rattle.network.specs.Offices.{report_fault, mark_fault, reported, remarked}
-use Rattle.checks.specs.Checks.{checked}
-use Rattle.planning.specs.Planned.{Accepted, Impossible}
+use Rattle.planning_rules.specs.Checks.{planning_fault}
+use Rattle.planning_rules.specs.Answers.{Accepted, Impossible}
 use Rattle.tally.specs.Tallies.{Tally, with_meaning, with_plan, with_stations, with_runs, short_list, running_list, standing}
 use Rattle.tally.specs.Answers.{refusal_of}
 use Rattle.tally.specs.declared.answer.Answer.{Answer}
@@ -40,7 +38,7 @@ abbrev pub fault : Tally → Call → Option (ℕ × ℕ)
 fault t (Report s b) = report_fault t.meaning.open_stations s b
 fault t (Close k) = mark_fault t.meaning.road_legs t.meaning.legs k Shut
 fault t (Reopen k) = mark_fault t.meaning.road_legs t.meaning.legs k Open
-fault t (Plan l) = option_map (λ (e : Refusal). (number e, place e)) (checked t.meaning l)
+fault t (Plan l) = planning_fault t.meaning l
 fault t (ListStations n) = cond (nat_lt n t.meaning.open_stations) (Some (11, 0)) None
 fault t (ListRuns n) = cond (nat_lt n (length t.meaning.legs)) (Some (11, 0)) None
 fault t (Read k) = None

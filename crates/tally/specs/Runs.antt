@@ -20,8 +20,8 @@ use Rattle.records.specs.declared.refusal.Refusal.{Refusal}
 use Rattle.theory.specs.Walks.{Distinct}
 use Rattle.plans.specs.Plans.{sum_below, Obeys, cents, difference, CheapestThenNearest}
 use Rattle.plans.specs.Cuts.{Cut}
-use Rattle.prices.specs.Priced.{Prices}
-use Rattle.checks.specs.declared.lengths.Lengths.{Lengths}
+use Rattle.plans.specs.Prices.{Prices}
+use Rattle.planning_rules.specs.declared.lengths.Lengths.{Lengths}
 use Rattle.listing.specs.Lists.{Ordered}
 use Rattle.tally.specs.Tallies.{Tally, short, runs}
 use Rattle.tally.specs.Answers.{refusal_of}

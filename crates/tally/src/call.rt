@@ -2,7 +2,7 @@
 ghost use Rattle.std.specs.Prelude.{Some};
 ghost use Rattle.tally.specs.Texts.{call_text};
 
-use checks::Lengths;
+use planning_rules::Lengths;
 use std::fmt;
 
 #[derive(Clone, Copy, PartialEq, Eq, Debug)]

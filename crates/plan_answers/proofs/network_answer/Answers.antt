@@ -4,7 +4,7 @@ use Rattle.plan_answers.proofs.network_answer.Goals as goal
 
 pub returns : goal.returns
 returns g c =
-    whole_printed c.answer_within.result string_bytes (g.N.Network.meaning c.args.net.now) _ _ c.in_ok-desk.desk _
+    whole_printed c.answer_within.result string_bytes (g.N.Network.meaning c.args.net.now) _ _ _
     (c.as_mut_slice.ensures.len ∙ c.in_ok-prices.ensures.len)
     (c.as_mut_slice-2.ensures.len ∙ c.in_ok-cut.ensures.len)
-    c.in_ok-desk.ensures c.lend-tables.ensures c.answer_within.ensures
+    (c.lend-tables.ensures.entries 240 3000 c.in_ok-workspace.ensures.holds) c.answer_within.ensures

@@ -14,4 +14,4 @@ returns g c =
     rw (with_items_is m.answers now.answers a, with_items_is m.prices now.prices p, with_items_is m.numbers now.numbers n, with_items_is m.amounts now.amounts x)
     (made c.run_with.result (g.N.Network.meaning c.args.net) c.args.calls.now m _ _ _ _ _ _ _
     c.as_mut_slice.ensures.value c.as_mut_slice-2.ensures.value c.as_mut_slice-3.ensures.value c.as_mut_slice-4.ensures.value
-    c.lend-tables.ensures c.run_with.ensures)
+    c.lend-tables.ensures.entries c.run_with.ensures)

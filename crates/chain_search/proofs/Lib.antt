@@ -1,2 +1,0 @@
-pub mod Chaining
-pub mod Visiting

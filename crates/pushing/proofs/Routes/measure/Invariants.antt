@@ -1,8 +1,0 @@
-use Rattle.std.proofs.Common.{◌≡◌}
-use Rattle.plans.specs.Plans.{stations}
-use Rattle.pushing.proofs.Measuring.{Measuring}
-use Rattle.pushing.proofs.Routes.measure.Given as goal
-
--- the last steps from the station on have room
-abbrev pub invariant-loop-turn : goal.invariant-loop-turn
-invariant-loop-turn g l = (l._turn-end ≡ stations (g.N.Network.meaning l.self.net.now)) × Measuring (g.N.Network.meaning l.self.net.now) l.self.standing.now l.draft.amounts.now l.self.labels.now l.target l._turn l.at l.room
