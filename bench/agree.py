@@ -4,7 +4,7 @@
 Two plans agree if each obeys the network and costs what its first line says, and if both cost the same
 and carry the same number of bikes over all legs together (which is how far they are from a plan that
 carries nothing). They need not be the same plan. Two refusals agree if each says that there is no plan.
-Prints "yes", or "no" and the reason.
+Prints "yes", or "no: " and the reason.
 """
 
 import sys
@@ -70,19 +70,19 @@ def weigh(path, net):
     return cents, sum(carried.values())
 
 
-def main():
-    net = network(sys.argv[1])
+def verdict(text, answer, other):
+    """"yes", or "no: " and the reason."""
+    net = network(text)
     found = []
-    for path in sys.argv[2:4]:
+    for path in answer, other:
         try:
             found.append(weigh(path, net))
         except (ValueError, IndexError) as fault:
-            print("no: %s: %s" % (path.rsplit("/", 1)[-1], fault))
-            return
+            return "no: %s: %s" % (path.rsplit("/", 1)[-1], fault)
     if found[0] == found[1]:
-        print("yes")
-    else:
-        print("no: %s against %s (cents, bikes)" % tuple("no plan" if f is None else f for f in found))
+        return "yes"
+    return "no: %s against %s (cents, bikes)" % tuple("no plan" if f is None else f for f in found)
 
 
-main()
+if __name__ == "__main__":
+    print(verdict(*sys.argv[1:4]))

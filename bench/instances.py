@@ -1,14 +1,14 @@
 #!/usr/bin/env python3
-"""Writes the ten networks of the bench as texts into a folder: instances.py FOLDER
+"""The networks of the bench, as texts.
 
-Every network is made from a fixed seed, so the texts are the same on every machine. Nine have a plan:
+Every network is made from a fixed seed, so the texts are the same on every machine. All but one have a plan:
 bikes are first sent along walks that are drawn at random, and the balances and the least capacities
-follow from them. The tenth, no-plan, has a cut that is a few bikes too narrow.
+follow from them. The other, no-plan, has a cut that is a few bikes too narrow.
+
+Three of them are made in smaller sizes, too: with fewer stations, and as many legs to a station.
 """
 
-import os
 import random
-import sys
 
 STATIONS = 240
 LEGS = 3000
@@ -20,9 +20,10 @@ MOST_BYTES = 65536
 class Draft:
     """A network in the making. Stations count from 0."""
 
-    def __init__(self, seed, stations=STATIONS):
+    def __init__(self, seed, stations=STATIONS, count=LEGS):
         self.rng = random.Random(seed)
         self.stations = stations
+        self.count = count
         self.legs = []
         self.taken = set()
         self.out = [[] for _ in range(stations)]
@@ -39,7 +40,7 @@ class Draft:
 
     def fill(self, draw, twice=False):
         """Adds the legs that draw() proposes until there are enough."""
-        while len(self.legs) < LEGS:
+        while len(self.legs) < self.count:
             self.leg(*draw(), twice=twice)
 
     def walk(self, source, end, bikes, among=None):
@@ -98,19 +99,24 @@ class Draft:
             room = max(capacity, planted)
             assert 0 <= room <= MOST_BIKES and 0 <= cents <= MOST_CENTS and source != end
             lines.append("a %d %d 0 %d %d" % (names[source], names[end], room, cents))
-        assert len(self.legs) == LEGS
+        assert len(self.legs) == self.count
         assert sum(self.balance) == 0 and max(map(abs, self.balance)) <= MOST_BIKES
         text = "\n".join(lines) + "\n"
         assert len(text) <= MOST_BYTES, len(text)
         return text
 
 
-def random_network():
+def legs_of(n):
+    """How many legs a network of n stations has: as many to a station as the largest."""
+    return LEGS * n // STATIONS
+
+
+def random_network(n=STATIONS):
     """Legs between any two stations; a tenth of the stations have many bikes, a tenth need many."""
-    d = Draft(1)
+    d = Draft(1, n, legs_of(n))
     r = d.rng
-    d.fill(lambda: (r.randrange(240), r.randrange(240), r.randint(0, 60), r.randint(1, 9999)))
-    d.send_among(range(0, 24), range(24, 48), 24 * 350, 25)
+    d.fill(lambda: (r.randrange(n), r.randrange(n), r.randint(0, 60), r.randint(1, 9999)))
+    d.send_among(range(0, n // 10), range(n // 10, n // 5), n // 10 * 350, 25)
     return d.text()
 
 
@@ -188,34 +194,41 @@ def grid():
     return d.text()
 
 
-def chains():
-    """Two chains of 120 stations. Skipping stations is dearer than going through them."""
-    d = Draft(6)
+def chains(n=STATIONS):
+    """Two chains of n / 2 stations. Skipping stations is dearer than going through them."""
+    d = Draft(6, n, legs_of(n))
     r = d.rng
+    half, ends = n // 2, n // 24
     for far in range(1, 14):
-        for side in (0, 120):
-            for at in range(119):
-                if at + far < 120 and len(d.legs) < LEGS - 40:
+        for side in (0, half):
+            for at in range(half - 1):
+                if at + far < half and len(d.legs) < d.count - n // 6:
                     d.leg(side + at, side + at + far, r.randint(20, 90) if far == 1 else r.randint(1, 30),
                           far * far * 40 + r.randint(0, 40) * far)
-    d.fill(lambda: (r.randrange(240), r.randrange(240), r.randint(1, 20), r.randint(1, 9999)))
-    tops, tails = list(range(0, 10)) + list(range(120, 130)), list(range(110, 120)) + list(range(230, 240))
-    d.send_among(tops, tails, 20 * 60, 6)
-    d.send_among(range(240), range(240), 600, 6)
+    d.fill(lambda: (r.randrange(n), r.randrange(n), r.randint(1, 20), r.randint(1, 9999)))
+    tops = list(range(0, ends)) + list(range(half, half + ends))
+    tails = list(range(half - ends, half)) + list(range(n - ends, n))
+    d.send_among(tops, tails, 2 * ends * 60, 6)
+    d.send_among(range(n), range(n), n * 5 // 2, 6)
     return d.text()
 
 
-def layered():
-    """Twelve layers of 20 stations, legs from each to the next."""
-    d = Draft(7)
+# How many layers a network of so many stations has.
+LAYERS = {30: 3, 60: 5, 120: 8, 240: 12}
+
+
+def layered(n=STATIONS):
+    """Layers of stations, legs from each to the next; in the smaller sizes some pairs have more than one."""
+    d = Draft(7, n, legs_of(n))
     r = d.rng
+    layers, wide = LAYERS[n], n // LAYERS[n]
 
     def draw():
-        layer = r.randrange(11)
-        return (layer * 20 + r.randrange(20), layer * 20 + 20 + r.randrange(20),
+        layer = r.randrange(layers - 1)
+        return (layer * wide + r.randrange(wide), layer * wide + wide + r.randrange(wide),
                 r.randint(0, 40), r.randint(1, 9999))
-    d.fill(draw)
-    d.send_among(range(0, 20), range(220, 240), 20 * 300, 20)
+    d.fill(draw, twice=n < STATIONS)
+    d.send_among(range(0, wide), range(n - wide, n), wide * 300, 20)
     return d.text()
 
 
@@ -280,27 +293,40 @@ def dense():
     return d.text()
 
 
-NETWORKS = [
-    ("random", random_network),
-    ("spread", spread),
-    ("transport", transport),
-    ("netgen", netgen),
-    ("grid", grid),
-    ("chains", chains),
-    ("layered", layered),
-    ("ties", ties),
-    ("no-plan", no_plan),
-    ("dense", dense),
-]
+def longest():
+    """About as many bytes as a text may have: every number is written with as many digits as it may have."""
+    return with_long_numbers(STATIONS, LEGS)
 
 
-def main():
-    folder = sys.argv[1]
-    os.makedirs(folder, exist_ok=True)
-    for name, make in NETWORKS:
-        with open(os.path.join(folder, name + ".min"), "w", newline="\n") as file:
-            file.write(make())
-        print(name)
+def half_as_long():
+    return with_long_numbers(STATIONS // 2, LEGS // 2)
 
 
-main()
+def with_long_numbers(stations, legs):
+    """A text with so many lines that state a balance and a leg."""
+    r = random.Random(11)
+    lines = ["p min %d %d" % (STATIONS, legs)]
+    lines += ["n %d %d" % (STATIONS - k, r.randint(100, 500)) for k in range(stations)]
+    for _ in range(legs):
+        source, end = r.sample(range(100, STATIONS + 1), 2)
+        lines.append("a %d %d 0 %d %d" % (source, end, r.randint(100, 500), r.randint(1000, 9999)))
+    return "\n".join(lines) + "\n"
+
+
+# The ten of the largest size, by name.
+NETWORKS = {
+    "random": random_network,
+    "spread": spread,
+    "transport": transport,
+    "netgen": netgen,
+    "grid": grid,
+    "chains": chains,
+    "layered": layered,
+    "ties": ties,
+    "no-plan": no_plan,
+    "dense": dense,
+}
+
+# Those that are made in several sizes, and the sizes.
+GROWING = ["random", "chains", "layered"]
+SIZES = sorted(LAYERS)

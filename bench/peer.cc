@@ -1,19 +1,23 @@
-// The program that the planner is compared with: LEMON's successive shortest paths.
+// The programs that the planner is compared with: three methods of LEMON, of which an argument names one.
+//
+//   peer network-simplex | cost-scaling | successive-paths
 //
 // Reads a network text from standard input and prints a cheapest plan, of the cheapest ones one that
-// carries the fewest bikes over all legs together: `s CENTS` and a line `f SRC DST BIKES` for each leg
-// that carries any. Prints `c refused 15 0` if there is no plan. The text is taken to be without fault.
+// carries the fewest bikes over all legs together, as the planner prints it: `s CENTS` and a line `f SRC DST BIKES`
+// for each leg. Prints `c refused 15 0` if there is no plan. The text is taken to be without fault.
 
 #include <cstdint>
 #include <cstdio>
 #include <cstdlib>
+#include <cstring>
 #include <vector>
 
 #include <lemon/capacity_scaling.h>
+#include <lemon/cost_scaling.h>
+#include <lemon/network_simplex.h>
 #include <lemon/static_graph.h>
 
 typedef lemon::StaticDigraph Graph;
-typedef lemon::CapacityScaling<Graph, int, std::int64_t> Method;
 
 // More than all legs can carry together: 3,000 legs with 500 bikes each.
 static const std::int64_t BIG = std::int64_t(1) << 21;
@@ -34,6 +38,39 @@ static int number() {
   return below ? -value : value;
 }
 
+// A network as LEMON takes it: the graph wants its arcs ordered by source, so arc[] says which one a leg is.
+struct Problem {
+  Graph graph;
+  std::vector<int> arc;
+  Graph::ArcMap<int> capacity;
+  Graph::ArcMap<std::int64_t> cost;
+  Graph::NodeMap<int> supply;
+
+  Problem() : capacity(graph), cost(graph), supply(graph) {}
+};
+
+// Plans by a method, with the argument that its run takes, if any: the bikes of each leg, or false if there is no plan.
+template <class Method, class... Argument>
+static bool plan(const Problem& problem, std::vector<int>& bikes, Argument... argument) {
+  Method method(problem.graph);
+  method.upperMap(problem.capacity).costMap(problem.cost).supplyMap(problem.supply);
+  if (method.run(argument...) != Method::OPTIMAL) return false;
+  for (std::size_t k = 0; k < bikes.size(); ++k) bikes[k] = method.flow(problem.graph.arc(problem.arc[k]));
+  return true;
+}
+
+static bool plan_by(const char* name, const Problem& problem, std::vector<int>& bikes) {
+  if (std::strcmp(name, "network-simplex") == 0)
+    return plan<lemon::NetworkSimplex<Graph, int, std::int64_t> >(problem, bikes);
+  if (std::strcmp(name, "cost-scaling") == 0)
+    return plan<lemon::CostScaling<Graph, int, std::int64_t> >(problem, bikes);
+  // Scaled by 1, which is no scaling: cheapest walks one after another.
+  if (std::strcmp(name, "successive-paths") == 0)
+    return plan<lemon::CapacityScaling<Graph, int, std::int64_t> >(problem, bikes, 1);
+  std::fprintf(stderr, "peer: no method %s\n", name);
+  std::exit(2);
+}
+
 static char* digits(char* to, std::int64_t value) {
   char turned[20];
   int count = 0;
@@ -45,7 +82,7 @@ static char* digits(char* to, std::int64_t value) {
   return to;
 }
 
-int main() {
+int main(int, char** arguments) {
   std::size_t length = std::fread(text, 1, sizeof text - 1, stdin);
   text[length] = 0;
   const char* over = text + length;
@@ -76,53 +113,44 @@ int main() {
     ++at;
   }
 
-  // The graph wants its arcs ordered by source: where[] says which arc of the graph a leg is.
   int count = int(legs.size());
-  std::vector<int> next(stations + 1, 0), where(count);
+  Problem problem;
+  std::vector<int> next(stations + 1, 0);
   for (int k = 0; k < count; ++k) ++next[legs[k].source + 1];
   for (int v = 0; v < stations; ++v) next[v + 1] += next[v];
   std::vector<std::pair<int, int> > ends(count);
+  problem.arc.resize(count);
   for (int k = 0; k < count; ++k) {
-    where[k] = next[legs[k].source]++;
-    ends[where[k]] = std::make_pair(legs[k].source, legs[k].end);
+    problem.arc[k] = next[legs[k].source]++;
+    ends[problem.arc[k]] = std::make_pair(legs[k].source, legs[k].end);
   }
-  Graph graph;
-  graph.build(stations, ends.begin(), ends.end());
-
-  Graph::ArcMap<int> capacity(graph);
-  Graph::ArcMap<std::int64_t> cost(graph);
-  Graph::NodeMap<int> supply(graph);
+  problem.graph.build(stations, ends.begin(), ends.end());
   for (int k = 0; k < count; ++k) {
-    capacity[graph.arc(where[k])] = legs[k].capacity;
-    cost[graph.arc(where[k])] = legs[k].cents * BIG + 1;
+    Graph::Arc arc = problem.graph.arc(problem.arc[k]);
+    problem.capacity[arc] = legs[k].capacity;
+    problem.cost[arc] = legs[k].cents * BIG + 1;
   }
   std::int64_t sum = 0;
   for (int v = 0; v < stations; ++v) {
-    supply[graph.node(v)] = balance[v];
+    problem.supply[problem.graph.node(v)] = balance[v];
     sum += balance[v];
   }
 
-  Method method(graph);
-  method.upperMap(capacity).costMap(cost).supplyMap(supply);
-  if (sum != 0 || method.run(1) != Method::OPTIMAL) {
+  std::vector<int> bikes(count);
+  if (!plan_by(arguments[1] ? arguments[1] : "", problem, bikes) || sum != 0) {
     std::fputs("c refused 15 0\n", stdout);
     return 0;
   }
 
   std::int64_t cents = 0;
+  for (int k = 0; k < count; ++k) cents += std::int64_t(bikes[k]) * legs[k].cents;
   std::vector<char> out(64 + std::size_t(count) * 20);
-  std::vector<int> bikes(count);
-  for (int k = 0; k < count; ++k) {
-    bikes[k] = method.flow(graph.arc(where[k]));
-    cents += std::int64_t(bikes[k]) * legs[k].cents;
-  }
   char* to = out.data();
   *to++ = 's';
   *to++ = ' ';
   to = digits(to, cents);
   *to++ = '\n';
   for (int k = 0; k < count; ++k) {
-    if (bikes[k] == 0) continue;
     *to++ = 'f';
     *to++ = ' ';
     to = digits(to, legs[k].source + 1);
