@@ -1,15 +1,15 @@
 -- Three lists, one after the other.
---   short_of     whether the balance of a station is below zero
---   ThreeLists   stations with -2, 3, -2 and 1; then station 0 has 1; then -2 again
-use Rattle.std.specs.Prelude.{◌≡◌, ℕ, Bool, List, [], ◌∷◌, ℤ, pos, negsuc, int_lt, slice_index_or}
+--   answers      who belongs, by the answers for the first numbers; beyond them nobody does
+--   ThreeLists   0 and 2 belong; then 2 alone; then 0 and 2 again
+use Rattle.std.specs.Prelude.{◌≡◌, ℕ, Bool, true, false, List, [], ◌∷◌, slice_index_or}
 use Rattle.listing.specs.Lists.{listed}
 
-abbrev pub short_of : List ℤ → ℕ → Bool
-short_of balances v = int_lt (slice_index_or balances v (pos 0)) (pos 0)
+abbrev pub answers : List Bool → ℕ → Bool
+answers given v = slice_index_or given v false
 
--- negsuc 1 is -2
+-- who comes back stands behind who stayed
 abbrev pub ThreeLists : Type 0
 ThreeLists =
-    (listed (short_of (negsuc 1 ∷ pos 3 ∷ negsuc 1 ∷ pos 1 ∷ [])) 4 [] ≡ 0 ∷ 2 ∷ [])
-    × (listed (short_of (pos 1 ∷ pos 3 ∷ negsuc 1 ∷ pos 1 ∷ [])) 4 (0 ∷ 2 ∷ []) ≡ 2 ∷ [])
-    × (listed (short_of (negsuc 1 ∷ pos 3 ∷ negsuc 1 ∷ pos 1 ∷ [])) 4 (2 ∷ []) ≡ 2 ∷ 0 ∷ [])
+    (listed (answers (true ∷ false ∷ true ∷ false ∷ [])) 4 [] ≡ 0 ∷ 2 ∷ [])
+    × (listed (answers (false ∷ false ∷ true ∷ false ∷ [])) 4 (0 ∷ 2 ∷ []) ≡ 2 ∷ [])
+    × (listed (answers (true ∷ false ∷ true ∷ false ∷ [])) 4 (2 ∷ []) ≡ 2 ∷ 0 ∷ [])

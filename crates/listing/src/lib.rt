@@ -118,8 +118,7 @@ pub fn lists_have_two_parts()
     ensures { InTwoParts }
 {}
 
-// Stations with the balances -2, 3, -2 and 1: the short ones are 0, 2. Station 0 reports 1: 2 is left.
-// It reports -2: now they are 2, 0.
+// Of four numbers 0 and 2 belong: the list is 0, 2. Then 0 does not: 2 is left. Then it does again: now the list is 2, 0.
 pub fn who_comes_back_goes_to_the_end()
     ensures { ThreeLists }
 {}

@@ -130,7 +130,7 @@ by_two : (t : Tally) (e : Refusal) (q q' : Papers) (u : Tally) → t.meaning ≡
 by_two t e q q' u m a k = go ((cuts (take (place e) q'.numbers)).0 k)
   where
     named : place e ≡ 2 → Refused e ≡ Refused (NoPlanObeys 2)
-    named p = let i = a.0 in same_refused (Refused e) (Refused (NoPlanObeys 2)) (15, 2) (rw (i, p) refl) refl
+    named p = let i = a.0 in same_refused (Refused e) (Refused (NoPlanObeys 2)) (15, 2) (omega arith, omega arith) (rw (i, p) refl) refl
 
     two : (vs : List ℕ) → length vs ≡ 2 → take (place e) q'.numbers ≡ vs → (Refused e ≡ Refused (NoPlanObeys 2)) × (q'.numbers ≡ written vs q.numbers)
     two vs l p =

@@ -1,10 +1,10 @@
 -- What the rules settle: the tally after a call, and what two answers to it have in common.
-use Rattle.std.proofs.Common.{◌≡◌, ℕ, Some, sym, refl, ap, ◌∙◌, inl, inr}
+use Rattle.std.proofs.Common.{◌≡◌, ℕ, Some, sym, refl, ap, ◌∙◌, inl, inr, arith}
 use Rattle.records.specs.declared.refusal.Refusal.{Refusal}
 use Rattle.plans.specs.Plans.{cents, difference}
 use Rattle.tally.specs.Tallies.{Tally, with_plan}
 use Rattle.tally.specs.Answers.{number_of}
-use Rattle.tally.specs.Follows.{Papers, PlanAnswers, Accepts, Follows}
+use Rattle.tally.specs.Follows.{Papers, fault, PlanAnswers, Accepts, Follows}
 use Rattle.tally.specs.Model.{fed, moved, moved_unless, next}
 use Rattle.tally.specs.Laws.{Agree}
 use Rattle.tally.specs.declared.answer.Answer.{Answer}
@@ -12,7 +12,8 @@ use Rattle.tally.specs.declared.answer.Answer.TheVariants.{Refused, Planned}
 use Rattle.tally.specs.declared.call.Call.{Call}
 use Rattle.tally.specs.declared.call.Call.TheVariants.{Report, Close, Reopen, Plan, ListStations, ListRuns, Read}
 use Rattle.tally.proofs.Meeting.{met}
-use Rattle.tally.proofs.Naming.{same_refused}
+use Rattle.tally.proofs.Faults.{fault_meets}
+use Rattle.tally.proofs.Naming.{IsBoards, same_refused}
 
 moved_is : (t : Tally) (call : Call) (answer : Answer) (p p' : Papers) (t' : Tally) → Accepts t call answer p p' t' → t' ≡ moved t call (fed answer t'.plan)
 moved_is t (Report s b) answer p p' t' a = a.2
@@ -68,6 +69,9 @@ accepts_agree t (ListStations n) x y p p₁ p₂ t₁ t₂ a b = same a.0 b.0 a.
 accepts_agree t (ListRuns n) x y p p₁ p₂ t₁ t₂ a b = same a.0 b.0 a.2 b.2
 accepts_agree t (Read k) x y p p₁ p₂ t₁ t₂ a b = same a.0 b.0 a.2 b.2
 
+boards : (t : Tally) (call : Call) (f : ℕ × ℕ) → fault t call ≡ Some f → IsBoards f
+boards t call f e = let m = fault_meets t call f e in (m.0, omega (arith, m.1))
+
 pub agreed : (t : Tally) (call : Call) (x y : Answer) (p p₁ p₂ : Papers) (t₁ t₂ : Tally) → Follows t call x p p₁ t₁ → Follows t call y p p₂ t₂ → Agree x y t₁ t₂
 agreed t call x y p p₁ p₂ t₁ t₂ F G =
-    met t call F (λ f e a. let b = G.refused f e in same (same_refused x y f a.0 b.0) refl a.2 b.2) (λ e a. accepts_agree t call x y p p₁ p₂ t₁ t₂ a (G.accepted e))
+    met t call F (λ f e a. let b = G.refused f e in same (same_refused x y f (boards t call f e) a.0 b.0) refl a.2 b.2) (λ e a. accepts_agree t call x y p p₁ p₂ t₁ t₂ a (G.accepted e))

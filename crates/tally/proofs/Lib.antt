@@ -1,3 +1,4 @@
+pub mod Faults
 pub mod Naming
 pub mod Meeting
 pub mod Written
