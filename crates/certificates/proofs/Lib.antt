@@ -3,3 +3,4 @@ pub mod Moved
 pub mod Raised
 pub mod Mending
 pub mod Balanced
+pub mod Starting

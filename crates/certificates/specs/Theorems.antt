@@ -9,6 +9,7 @@
 --                          are part of one
 --   MendedIsCertified      the plan made of a guess and a potential fits, and the potential certifies it
 --   MendKeepsCertified     amounts that fit and that the potential certifies stay as they were guessed
+--   FirstIsCertified       the plan to start from fits, and the potential that is zero everywhere certifies it
 --   LevelMendIsFirst       by the potential that is zero everywhere, each guess is mended to the plan to start from
 --   NothingLeftObeys       a plan that fits and leaves nothing over obeys
 --   BalancesTotal          the sum of the balances by number is that of their list
@@ -23,7 +24,7 @@ use Rattle.plans.specs.Residuals.{Joined, tail, head, residual, step_both, BothS
 use Rattle.plans.specs.Prices.{BothRoundTrip}
 use Rattle.plans.specs.Cuts.{left_over}
 use Rattle.certificates.specs.Pushes.{shifted, SendsAlong, room_over, Sent}
-use Rattle.certificates.specs.Starts.{First, level}
+use Rattle.certificates.specs.Starts.{First, first_plan, level}
 use Rattle.certificates.specs.Mends.{Mended, mended_plan}
 use Rattle.certificates.specs.Totals.{total_below, all_over}
 
@@ -78,6 +79,10 @@ abbrev pub MendKeepsCertified : Type 0
 MendKeepsCertified =
     (net : Net) (standing guess plan : List ℕ) (π : ℕ → ℤ × ℤ) → Fits net guess → Certifies net standing guess π → Mended net standing guess π plan
     → (k : ℕ) → Joined net k → amount plan k ≡ amount guess k
+
+-- the list is such a plan; then what holds of every such plan
+abbrev pub FirstIsCertified : Type 0
+FirstIsCertified = (net : Net) (standing : List ℕ) → First net standing (first_plan net standing) × ((plan : List ℕ) → First net standing plan → Fits net plan × Certifies net standing plan level)
 
 abbrev pub LevelMendIsFirst : Type 0
 LevelMendIsFirst = (net : Net) (standing guess plan : List ℕ) → Mended net standing guess level plan ↔ First net standing plan

@@ -1,7 +1,7 @@
 //! What a planner by repeated cheapest walks rests on: each theorem is the promise of one function.
 #![tactic(auto)]
 
-ghost use Rattle.certificates.specs.Theorems.{BalancesTotal, LabelsExtend, LeftOversSum, LevelMendIsFirst, MendKeepsCertified, MendedIsCertified, NoRoundTrip, NoneOverObeys, NothingLeftObeys, PushKeepsCertificate, PushLowersOver, PushMovesEnds, PushesJoin, RoomsSuffice};
+ghost use Rattle.certificates.specs.Theorems.{BalancesTotal, FirstIsCertified, LabelsExtend, LeftOversSum, LevelMendIsFirst, MendKeepsCertified, MendedIsCertified, NoRoundTrip, NoneOverObeys, NothingLeftObeys, PushKeepsCertificate, PushLowersOver, PushMovesEnds, PushesJoin, RoomsSuffice};
 
 /// Bikes sent along a tight residual step, not past the standing amount, leave the certificate as it is.
 pub fn push_along_a_tight_step_keeps_the_certificate()
@@ -28,6 +28,12 @@ pub fn mended_plan_is_certified()
 /// A guess that fits and that the potential certifies stays as it is, on all legs that join stations.
 pub fn mend_keeps_certified_amounts()
     ensures { MendKeepsCertified }
+{}
+
+/// The plan that gives a leg without charge what it carries in the standing plan, as far as its capacity in force goes, and
+/// every other leg 0, fits, and the potential that is zero everywhere certifies it.
+pub fn first_plan_is_certified()
+    ensures { FirstIsCertified }
 {}
 
 /// The potential that is zero everywhere mends every guess to the plan to start from.

@@ -1,15 +1,17 @@
 -- Three lists, one after the other.
---   answers      who belongs, by the answers for the first numbers; beyond them nobody does
+--   Answers      how a test answers for the first four numbers: for 0 as it is said, for 2 that it belongs, for 1 and 3 not
 --   ThreeLists   0 and 2 belong; then 2 alone; then 0 and 2 again
-use Rattle.std.specs.Prelude.{◌≡◌, ℕ, Bool, true, false, List, [], ◌∷◌, slice_index_or}
+use Rattle.std.specs.Prelude.{◌≡◌, ℕ, Bool, true, false, [], ◌∷◌}
 use Rattle.listing.specs.Lists.{listed}
 
-abbrev pub answers : List Bool → ℕ → Bool
-answers given v = slice_index_or given v false
+pub record Answers (belongs : ℕ → Bool) (zero : Bool) : Type 0 where
+  pub at_0 : belongs 0 ≡ zero
+  pub at_1 : belongs 1 ≡ false
+  pub at_2 : belongs 2 ≡ true
+  pub at_3 : belongs 3 ≡ false
 
--- who comes back stands behind who stayed
+-- by every three tests that answer so; who comes back stands behind who stayed
 abbrev pub ThreeLists : Type 0
 ThreeLists =
-    (listed (answers (true ∷ false ∷ true ∷ false ∷ [])) 4 [] ≡ 0 ∷ 2 ∷ [])
-    × (listed (answers (false ∷ false ∷ true ∷ false ∷ [])) 4 (0 ∷ 2 ∷ []) ≡ 2 ∷ [])
-    × (listed (answers (true ∷ false ∷ true ∷ false ∷ [])) 4 (2 ∷ []) ≡ 2 ∷ 0 ∷ [])
+    (first then again : ℕ → Bool) → Answers first true → Answers then false → Answers again true
+    → (listed first 4 [] ≡ 0 ∷ 2 ∷ []) × (listed then 4 (0 ∷ 2 ∷ []) ≡ 2 ∷ []) × (listed again 4 (2 ∷ []) ≡ 2 ∷ 0 ∷ [])

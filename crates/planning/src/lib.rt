@@ -18,9 +18,9 @@ pub mod draft;
 pub mod guess;
 mod marks;
 mod mend;
-mod routes;
+pub mod routes;
 mod sendings;
-mod sums;
+pub mod sums;
 pub mod tables;
 mod turns;
 
@@ -28,6 +28,7 @@ pub use draft::Draft;
 pub use guess::{Guess, NetworkSimplex, NoGuess};
 use network::Network;
 use records::Refusal;
+pub use routes::Routes;
 pub use tables::Tables;
 
 // Writes the prices under the best plan, and answers its cents and its difference from the standing plan. It is never

@@ -18,10 +18,10 @@ use search::{Arrival, Label};
 use slices::put;
 use steps::{Fees, InBoth, Load, Step, amount_at, in_force};
 
-// A network, the standing amounts of its legs, and the labels of its stations: the last steps in these are the routes that
-// bikes are sent along.
+/// A network, the standing amounts of its legs, and the labels of its stations: the last steps in these are the routes that
+/// bikes are sent along.
 #[derive(Drop)]
-pub(crate) struct Routes<'a, N> {
+pub struct Routes<'a, N> {
     pub net: &'a N,
     pub standing: &'a [u16],
     pub labels: &'a [Label<CentsThenBikes>],
@@ -199,10 +199,10 @@ impl<'a, N: Network> Routes<'a, N> {
         }
     }
 
-    // Sends bikes to a station that lacks them, from the start of the walk in its label, along the last steps back to there:
-    // as many as all steps take at the cost that they had in the search, the start has over and the station lacks. It alters
-    // the plan and what is left over, and says how many bikes: 0 where none go.
-    pub(crate) fn send(&self, target: usize, draft: &mut Draft<'_>) -> u64
+    /// Sends bikes to a station that lacks them, from the start of the walk in its label, along the last steps back to there:
+    /// as many as all steps take at the cost that they had in the search, the start has over and the station lacks. It alters
+    /// the plan and what is left over, and says how many bikes: 0 where none go.
+    pub fn send(&self, target: usize, draft: &mut Draft<'_>) -> u64
         ensures sends { Sends (N.Network.meaning self.now.net.now) self.now.standing.now
             self.now.labels.now target result draft.old draft.new }
 

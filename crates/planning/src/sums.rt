@@ -18,8 +18,8 @@ fn cents_on<N: Network>(net: &N, plan: &[u16], number: usize) -> u64
     u64::from(load.leg.charge) * u64::from(load.amount)
 }
 
-// The cents of a plan: charge × bikes over all legs.
-pub(crate) fn cents_of<N: Network>(net: &N, plan: &[u16]) -> u64
+/// The cents of a plan: charge × bikes over all legs, on every network.
+pub fn cents_of<N: Network>(net: &N, plan: &[u16]) -> u64
     ensures { result ≡ cents (N.Network.meaning net.now) plan.now }
 {
     (0..net.legs())
@@ -35,8 +35,8 @@ fn apart_on(standing: &[u16], plan: &[u16], number: usize) -> u64
     u64::from(amount_at(plan, number).abs_diff(amount_at(standing, number)))
 }
 
-// How far a plan is from the standing plan: the larger amount less the smaller over all legs.
-pub(crate) fn difference_of<N: Network>(net: &N, standing: &[u16], plan: &[u16]) -> u64
+/// How far a plan is from the standing plan: the larger amount less the smaller over all legs, on every network.
+pub fn difference_of<N: Network>(net: &N, standing: &[u16], plan: &[u16]) -> u64
     ensures { result ≡ difference (N.Network.meaning net.now) standing.now plan.now }
 {
     (0..net.legs())
